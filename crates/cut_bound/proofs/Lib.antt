@@ -14,6 +14,6 @@ pub mod Multiples
 pub mod GreatestCosts
 pub mod BarRatings
 pub mod PricedWants
--- wants and sheets that are rated by classes
+-- wants and sheets that have a bound by classes
 pub mod ClassRatings
 pub mod OrderFaults

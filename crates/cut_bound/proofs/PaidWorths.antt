@@ -23,7 +23,7 @@ use Rattle.cut_bound.proofs.UnitSums.{IsPlaced, at, at_place, each_at, limited, 
 
 -- ---- the size of a unit
 
--- a unit of one of the rated sizes
+-- a unit of one of the sizes
 record IsBoundedUnit (wants : List Want) (k : ℕ) (bounded : List BoundedSize) (u : CutUnit) : Type 0 where
   size : BoundedSize
   there : slice_get bounded u.place ≡ Some size

@@ -1,4 +1,4 @@
--- What planned units add up to, and that they are units of a cutting.
+-- What planned units add up to, and that they are units of a solution.
 use Rattle.std.proofs.Common.{◌≡◌, ℕ, ◌+◌, ◌*◌, ◌<◌, ◌≤◌, List, [], ◌∷◌, length, take, take_all, get_or, replicate, refl, ap, sym, ◌∙◌, arith}
 use Rattle.std.specs.Prelude.{All, sum_by}
 use Rattle.std.proofs.lemmas.List.Elements.{All-append, All-head, All-nil, All-replicate, All-tail}
@@ -36,7 +36,7 @@ planned_next f us i u lt is =
 pub planned_first : (f : CutUnit → ℕ) (us : List PlannedUnit) (i : ℕ) → planned_sum f (take i us) ≤ planned_sum f us
 planned_first f us i = sum_by-take-le (λ (v : PlannedUnit). v.times * f (one_of v)) us i
 
--- units that have a plan for their size are units of a cutting
+-- units that have a plan for their size are units of a solution
 pub are_cut : (wants : List Want) (k : ℕ) (sizes : List StockSize) (us : List PlannedUnit) → All (IsPlannedUnit wants k sizes) us → All (IsCutUnit wants k sizes) (solution_of us)
 are_cut wants k sizes [] all = All-nil (IsCutUnit wants k sizes)
 are_cut wants k sizes (u ∷ us) all =

@@ -1,4 +1,4 @@
--- Sums over the units of a cutting, added up unit by unit or size by size.
+-- Sums over the units of a solution, added up unit by unit or size by size.
 use Rattle.std.proofs.Common.{◌≡◌, ℕ, zero, suc, ◌+◌, ◌*◌, ◌<◌, ◌≤◌, cond, eqb, List, [], ◌∷◌, Option, Some, None, refl, ap, subst, ◌∙◌, inl, inr, arith}
 use Rattle.std.specs.Prelude.{All, IfSome, IfNone, IsSome, slice_get, sum_by, unwrap_or}
 use Rattle.std.specs.Option.{option_map_or}

@@ -16,7 +16,7 @@ IsMost wants kerf size best = (t : Tree) → Legal wants kerf t size.w size.h �
 abbrev pub AreBounded : List Want → (kerf : ℕ) → List BoundedSize → Type 0
 AreBounded wants kerf bounded = All (λ r. IsMost wants kerf r.stock.size r.best) bounded
 
--- the sizes that are rated
+-- the sizes that have a bound
 abbrev pub sizes_of : List BoundedSize → List StockSize
 sizes_of bounded = map (λ r. r.stock) bounded
 

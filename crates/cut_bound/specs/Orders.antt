@@ -57,7 +57,7 @@ abbrev pub reported_cost : (divisor cost : ℕ) → ℕ
 reported_cost divisor cost = min (div_ceil cost divisor * divisor) MAX_BOUND
 
 -- Each size with what a unit of it is worth at most at the wants' worths, and the greatest cost at the rate of a size that
--- sets the price, as a multiple of what divides all costs. Without a step sheets are rated over some classes of widths and
+-- sets the price, as a multiple of what divides all costs. Without a step the bounds of sheets are over some classes of widths and
 -- of heights, which else are of no concern.
 pub record IsBoundByUnits (kind : Kind) (kerf : ℕ) (step : Option ℕ) (sizes : List StockSize) (wants : List Want) (bound : ℕ) : Type 0 where
   pub across : Classes
@@ -72,7 +72,7 @@ pub record IsBoundByUnits (kind : Kind) (kerf : ℕ) (step : Option ℕ) (sizes 
   pub common : IsCommonDivisor sizes divisor
   pub reported : bound ≡ reported_cost divisor cost
 
--- the same at the prices of those wants that have one: no cutting of the sizes at hand that makes all wants costs less
+-- the same at the prices of those wants that have one: no solution of the sizes at hand that makes all wants costs less
 pub record IsPricedBound (kind : Kind) (kerf : ℕ) (step : Option ℕ) (sizes : List StockSize) (wants : List Want) (numbers : List ℕ) (bound : ℕ) : Type 0 where
   pub exact : IsBoundByUnits kind kerf step sizes (priced kind kerf (step_of step) wants numbers) bound
   pub least : IsCostBound wants kerf sizes bound

@@ -59,17 +59,17 @@ pub record IsOrderPlan (wants : List Want) (kerf : ℕ) (sizes : List StockSize)
   pub at_hand : AreAtHand sizes (solution_of units)
   pub no_more : MakesNoMore wants (solution_of units)
 
--- how many pieces of a want are left to make after a cutting
+-- how many pieces of a want are left to make after a solution
 abbrev pub missing_of : Solution → Want → ℕ
 missing_of solution x = x.left - pieces_of solution x.demand
 
--- the cutting makes all that is left, and none that does costs less
+-- the solution makes all that is left, and none that does costs less
 pub record IsCheapest (wants : List Want) (kerf : ℕ) (sizes : List StockSize) (solution : Solution) : Type 0 where
   pub cut : IsSolution wants kerf sizes solution
   pub makes_all : MakesAll wants solution
   pub least : IsCostBound wants kerf sizes (cost_of sizes solution)
 
--- The units are a plan of the order and so a cutting. Of each want the pieces planned and those missing are what is left,
+-- The units are a plan of the order and so a solution. Of each want the pieces planned and those missing are what is left,
 -- the cost is what the units cost, and `proved` says that they make all and cost as much as the bound.
 pub record IsChecked (wants : List Want) (kerf : ℕ) (sizes : List StockSize) (bound : ℕ) (units : List PlannedUnit) (checked : CheckedOrder) : Type 0 where
   pub plan : IsOrderPlan wants kerf sizes units
@@ -93,7 +93,7 @@ pub record HoldsPiece (wants : List Want) (kerf : ℕ) (size : Size) (x : Want) 
   pub legal : Legal wants kerf tree size.w size.h
   pub some_piece : 1 ≤ count_of tree x.demand
 
--- no unit at hand that the cutting does not use holds a piece of the want, turned where it may be
+-- no unit at hand that the solution does not use holds a piece of the want, turned where it may be
 abbrev pub IsUnheld : List StockSize → Solution → Want → Type 0
 IsUnheld sizes solution x =
     (place : ℕ) (s : StockSize) → slice_get sizes place ≡ Some s → IfSome s.limit (λ n. units_at solution place < n) → IsTrue (is_fitting s.size x) → ⊥

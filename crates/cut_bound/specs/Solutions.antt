@@ -20,7 +20,7 @@ pub record IsCutUnit (wants : List Want) (kerf : ℕ) (sizes : List StockSize) (
   pub there : slice_get sizes unit.place ≡ Some stock
   pub legal : Legal wants kerf unit.tree stock.size.w stock.size.h
 
--- how many units of a cutting are of the size at a place
+-- how many units of a solution are of the size at a place
 abbrev pub units_at : Solution → ℕ → ℕ
 units_at solution place = count_by (λ u. u.place == place) solution
 
@@ -33,7 +33,7 @@ pub record IsSolution (wants : List Want) (kerf : ℕ) (sizes : List StockSize) 
   pub legal : All (IsCutUnit wants kerf sizes) solution
   pub at_hand : AreAtHand sizes solution
 
--- what the units of a cutting cost together
+-- what the units of a solution cost together
 abbrev pub cost_of : List StockSize → Solution → ℕ
 cost_of sizes solution = sum_by (λ u. option_map_or (λ s. s.cost) (slice_get sizes u.place) 0) solution
 

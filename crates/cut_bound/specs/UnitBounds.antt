@@ -28,19 +28,19 @@ pub record IsClassBound (wants : List Want) (kerf : ℕ) (across down : Classes)
   pub worth : IsCeilingOf kerf across down table size.w size.h best
 
 -- That of best counts of a bar, or of a best tree of a sheet whose sides are rounded down to steps. Without a step a sheet
--- is rated by classes.
+-- has a bound by classes.
 abbrev pub IsUnitBound : Kind → (kerf : ℕ) → (step : Option ℕ) → (across down : Classes) → List Want → Size → ℕ → Type 0
 IsUnitBound Bar k step xs ys wants size best = IsBarBound wants k size.w best
 IsUnitBound Sheet k (Some s) xs ys wants size best = IsBestOf (wants_down k s wants) 0 (steps_down k s size.w) (steps_down k s size.h) best
 IsUnitBound Sheet k None xs ys wants size best = IsClassBound wants k xs ys size best
 
--- the wants whose worth is rated: of a sheet without a step those that a table over the classes counts
+-- the wants whose worth counts: of a sheet without a step those that a table over the classes counts
 abbrev pub wants_in_bound : Kind → (kerf : ℕ) → (step : Option ℕ) → (across down : Classes) → List Want → List Want
 wants_in_bound Bar k step xs ys wants = wants
 wants_in_bound Sheet k (Some s) xs ys wants = wants
 wants_in_bound Sheet k None xs ys wants = counted k xs ys wants
 
--- a size is too large to be rated; no sheet is without a step
+-- a size is too large for a unit bound; no sheet is without a step
 abbrev pub is_large : Kind → Size → (kerf : ℕ) → (step : Option ℕ) → Bool
 is_large Bar size k step = plan.is_large Bar size k 0
 is_large Sheet size k (Some s) = plan.is_large Sheet size k s

@@ -19,7 +19,7 @@ pub struct CheckedOrder {
     pub missing: Vec<u32>,
     /// The sum of the units' costs.
     pub cost: u128,
-    /// Nothing is missing, and the cost is the bound: no cutting that makes all costs less.
+    /// Nothing is missing, and the cost is the bound: no solution that makes all costs less.
     pub proved: bool,
 }
 
@@ -144,7 +144,7 @@ fn checked_units(
 /// Checks any list of planned units against a bound of the cost. It passes exactly those of which
 /// each has a plan for its size, of which no more than are at hand, and which make no more than is
 /// left; a cost of over 128 bits and lack of memory aside. Where the bound is one and `proved` is
-/// reported, no cutting that makes all costs less.
+/// reported, no solution that makes all costs less.
 pub fn check_order(
     alloc: Global,
     kerf: u32,

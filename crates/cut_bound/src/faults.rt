@@ -36,7 +36,7 @@ fn is_bad_step(kind: Kind, wants: &[Want], kerf: u32, step: Option<u32>) -> bool
     }
 }
 
-// Whether a size is too large to be rated. No sheet is without a step.
+// Whether a size is too large for a unit bound. No sheet is without a step.
 fn is_large(kind: Kind, size: Size, kerf: u32, step: Option<u32>) -> bool
     requires kerf { kerf ≤ MAX_KERF }
     requires step { kind ≡ Sheet → (s : ℕ) → step ≡ Some s → 1 ≤ s }

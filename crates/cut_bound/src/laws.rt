@@ -42,7 +42,7 @@ pub fn picked_wants_bound()
         → IsCostBound wants k sizes bound }
 {}
 
-/// Each cutting's cost is a multiple of what divides all costs, so that a bound, rounded up to one,
+/// Each solution's cost is a multiple of what divides all costs, so that a bound, rounded up to one,
 /// is a bound; and so is whatever is less.
 pub fn bounds_are_multiples()
     ensures { (wants : List Want) (k : ℕ) (sizes : List StockSize) (bound divisor : ℕ)

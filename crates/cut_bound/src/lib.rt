@@ -12,9 +12,9 @@ mod limits;
 mod planned;
 mod price;
 mod prices;
-mod unit_bounds;
 mod stages;
 mod stock;
+mod unit_bounds;
 
 pub use bound::{least_cost, priced_cost, unpriced_cost};
 pub use check::{CheckFault, CheckedOrder, check_order};
@@ -31,6 +31,6 @@ pub use limits::{
 pub use planned::{PlannedUnit, are_planned, cost_of, pieces_of, units_at};
 pub use price::greatest_cost;
 pub use prices::{Price, has_price, priced, prices_of};
-pub use unit_bounds::{bounded_bars, bounded_sheets};
 pub use stages::{count_stages, is_staged, stages_of_examples};
 pub use stock::{BoundedSize, StockSize};
+pub use unit_bounds::{bounded_bars, bounded_sheets};

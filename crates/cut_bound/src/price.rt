@@ -32,7 +32,8 @@ fn excess_at_hand(by: &BoundedSize, bounded: &[BoundedSize]) -> u128
 fn sets_price(by: &BoundedSize, bounded: &[BoundedSize]) -> bool
     ensures { IsTrue result ↔ bounds.SetsPrice by.now bounded.now }
 {
-    1 <= by.best && bounded.iter().all(|other| other.stock.limit.is_some() || excess(by, other) == 0)
+    1 <= by.best
+        && bounded.iter().all(|other| other.stock.limit.is_some() || excess(by, other) == 0)
 }
 
 // What a worth costs at the rate of a size, the excess of the units at hand taken off, rounded up.

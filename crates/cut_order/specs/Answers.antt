@@ -1,4 +1,4 @@
--- The answer to a question: a plan of the order that leaves out only what nothing unused holds, and a bound.
+-- The answer to an instance: a plan of the order that leaves out only what nothing unused holds, and a bound.
 use Rattle.std.specs.Prelude.{◌≡◌, ◌↔◌, ℕ, ◌+◌, ◌<◌, ◌^◌, IsTrue, IsSome, List, All, Option, map}
 use Rattle.cut_measure.specs.declared.sizes.Kind.{Kind}
 use Rattle.cut_wants.specs.declared.wants.Want.{Want}
@@ -44,6 +44,6 @@ pub record IsAnswerOf (kind : Kind) (kerf : ℕ) (step stages : Option ℕ) (siz
   pub lacking : IsTrue plan.short ↔ (All (λ s. IsSome s.limit) sizes × (cost_at_hand sizes < plan.bound))
   pub none_makes_all : IsTrue plan.short → (solution : Solution) → IsSolution wants kerf sizes solution → MakesAll wants solution → ⊥
 
--- the answer to a question
+-- the answer to an instance
 abbrev pub IsOrderAnswer : Instance → OrderPlan → Type 0
 IsOrderAnswer q plan = IsAnswerOf q.kind q.kerf q.step q.stages q.sizes.items q.wants.items plan

@@ -1,4 +1,4 @@
-//! A question with the greatest bound that is proved so far.
+//! An instance with the greatest bound that is proved so far.
 
 ghost use Rattle.std.specs.Prelude.{◌≡◌, IfOk};
 ghost use Rattle.cut_bound.specs.Orders.{IsPricedBound};
@@ -16,7 +16,7 @@ pub struct Certificate {
     pub bound: u64,
 }
 
-/// A question, and a bound that is exactly that of its prices.
+/// An instance, and a bound that is exactly that of its prices.
 #[derive(Drop)]
 pub struct Certified {
     pub instance: Instance,
@@ -26,7 +26,7 @@ pub struct Certified {
 }
 
 impl Certified {
-    /// A question with the bound at no prices.
+    /// An instance with the bound at no prices.
     pub fn new(alloc: Global, instance: Instance) -> Certified
         ensures { result.instance ≡ instance }
     {

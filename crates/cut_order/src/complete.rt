@@ -6,8 +6,8 @@ ghost use Rattle.cut_bound.specs.Solutions as cuttings;
 ghost use Rattle.cut_bound.specs.Planned.{solution_of};
 ghost use Rattle.cut_order.specs.Places.{IsAddition, IsDoneAt, IsFewOrderPlan, IsFilledOrFull, IsGrown};
 
-use crate::places::{unit_count, units_allowed};
 use crate::instance::Instance;
+use crate::places::{unit_count, units_allowed};
 use crate::single::single_plan;
 use cut_bound::{PlannedUnit, StockSize, pieces_of, units_at};
 use cut_measure::Size;

@@ -8,8 +8,8 @@ ghost use Rattle.cut_tree.specs.Tree.{IsShaped, cut_count};
 ghost use Rattle.cut_bound.specs.Stages.{IsStaged};
 ghost use Rattle.cut_order.specs.Places.{AreStaged, IsFewOrderPlan};
 
-use crate::places::unit_count;
 use crate::instance::Instance;
+use crate::places::unit_count;
 use crate::rests::largest_rest;
 use cut_bound::{CheckFault, CheckedOrder, MAX_ORDER_UNITS, PlannedUnit, check_order, is_staged};
 use cut_measure::{Axis, MAX_KERF, MAX_NUMBERS, Size};

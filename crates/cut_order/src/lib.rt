@@ -7,9 +7,9 @@ mod answer;
 mod certified;
 mod complete;
 mod found;
+mod instance;
 mod places;
 mod planning;
-mod instance;
 mod rests;
 mod search;
 mod seek;
@@ -20,6 +20,6 @@ pub use cut_bound::{
     MAX_BOUGHT_SIZES, MAX_BOUND, MAX_CALLS, MAX_ORDER_UNITS, MAX_ORDER_WANTS, MAX_PARTS,
     PlannedUnit, Price, StockSize, least_cost,
 };
+pub use instance::{Instance, MAX_COST, MAX_STAGES, MIN_STAGES, is_stage_limit, is_stock};
 pub use planning::plan_order;
-pub use instance::{MAX_COST, MAX_STAGES, MIN_STAGES, Instance, is_stage_limit, is_stock};
 pub use search::OrderSearch;

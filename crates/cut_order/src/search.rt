@@ -20,7 +20,7 @@ use cut_search::search::Search;
 use cut_search_bars::found::{Found, FoundUnit};
 use std::alloc::{AllocError, Global};
 
-// Prices that are still to be rated.
+// Prices whose bound is still to come.
 #[derive(Drop)]
 struct Pending {
     // One for each want.
@@ -64,7 +64,7 @@ impl OrderSearch {
         })
     }
 
-    // A search for a question without fault.
+    // A search for an instance without fault.
     fn asked(
         alloc: Global,
         kind: Kind,

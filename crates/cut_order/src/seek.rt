@@ -19,7 +19,7 @@ fn search_sizes(alloc: Global, sizes: &[StockSize]) -> Result<Vec<SearchSize>, A
         .collect(alloc)
 }
 
-/// A search for a question that has made no table yet.
+/// A search for an instance that has made no table yet.
 pub fn search_for(alloc: Global, instance: &Instance) -> Result<Search, AllocError> {
     let sizes = search_sizes(alloc, &instance.sizes)?;
     Search::new(

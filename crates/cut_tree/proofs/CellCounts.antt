@@ -6,8 +6,8 @@ use Rattle.std.proofs.lemmas.List.{get_or_default}
 use Rattle.std.proofs.lemmas.List.Sums.{sum_by-cons}
 use Rattle.cut_tree.specs.declared.lay.Row.{Row}
 use Rattle.cut_tree.specs.Tree.{Tree}
-use Rattle.cut_tree.specs.Cells.{Outcome, Spot, spot_of}
-use Rattle.cut_tree.specs.Laying.{CoversCell, IsSpot, Owns, IsLaid}
+use Rattle.cut_tree.specs.Cells.{Outcome, Location, location_of}
+use Rattle.cut_tree.specs.Laying.{CoversCell, IsLocation, Owns, IsLaid}
 use Rattle.cut_tree.specs.Counting.{sum_below, count_cells, Test, cells_of_rows, cells_of_unit}
 use Rattle.cut_tree.proofs.CellSums as rectangle
 use Rattle.cut_tree.proofs.CellSums.{bit, sum_below-same, sum_cells, sum_cells-same, sum_cells-add, sum_cells-zero, sum_mark, mark_in, mark_out}
@@ -76,17 +76,17 @@ module _ (t : Tree) (w h k : ℕ) (outcome : ℕ → Outcome) (rows : List Row) 
       (omega arith, omega arith)
 
   -- a cell is marked once, by the row that it is in
-  marked_once : (q : Test) (x y : ℕ) → x < w → y < h → sum_by (λ r. mark q r x y) rows ≡ bit (let s = spot_of t w h k outcome 0 0 x y in q s.node s.owner s.w s.h)
+  marked_once : (q : Test) (x y : ℕ) → x < w → y < h → sum_by (λ r. mark q r x y) rows ≡ bit (let s = location_of t w h k outcome 0 0 x y in q s.node s.owner s.w s.h)
   marked_once q x y xw yh =
       let a : Any (λ r. CoversCell r x y) rows = laid.each_cell x y xw yh in
       let r : Row = get_or rows a.0 a.1 in
-      let s : Spot = spot_of t w h k outcome 0 0 x y in
+      let s : Location = location_of t w h k outcome 0 0 x y in
       let holds : CoversCell r x y = subst (λ (v : Row). CoversCell v x y) (sym a.3) a.4 in
-      let place : IsSpot r s x y = laid.own_place a.0 a.1 a.2 x y holds in
+      let place : IsLocation r s x y = laid.own_place a.0 a.1 a.2 x y holds in
       let others : (m : ℕ) (d : Row) → m < length rows → (m ≡ a.0 → ⊥) → mark q (get_or rows m d) x y ≡ 0 =
       λ m d l apart. let other : Row = get_or rows m d in mark_out (q other.node other.owner other.w other.h) other.x other.y other.w other.h x y (λ on left right top bottom. (
       let held : CoversCell other x y = record { left = left; right = right; top = top; bottom = bottom } in
-      let p : IsSpot (get_or rows m d) s x y = laid.own_place m d l x y held in
+      let p : IsLocation (get_or rows m d) s x y = laid.own_place m d l x y held in
       apart (same_row rows m a.0 d a.1 laid.rising l a.2 (sym p.node ∙ place.node)))) in
       sum_by-one (λ v. mark q v x y) rows a.0 a.1 a.2 others
       ∙ mark_in (q r.node r.owner r.w r.h) r.x r.y r.w r.h x y holds.left holds.right holds.top holds.bottom
@@ -99,7 +99,7 @@ module _ (t : Tree) (w h k : ℕ) (outcome : ℕ → Outcome) (rows : List Row) 
   pub add_up : (q : Test) → cells_of_rows q rows ≡ cells_of_unit q t w h k outcome
   add_up q =
       swapped q rows w h inside
-      ∙ sum_cells-same (λ x y. sum_by (λ r. mark q r x y) rows) (λ x y. bit (let s = spot_of t w h k outcome 0 0 x y in q s.node s.owner s.w s.h)) w h (marked_once q)
+      ∙ sum_cells-same (λ x y. sum_by (λ r. mark q r x y) rows) (λ x y. bit (let s = location_of t w h k outcome 0 0 x y in q s.node s.owner s.w s.h)) w h (marked_once q)
 
 constant : (c n : ℕ) → sum_below (λ i. c) n ≡ c * n
 constant c zero = omega arith

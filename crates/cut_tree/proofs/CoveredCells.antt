@@ -11,8 +11,8 @@ use Rattle.cut_tree.specs.declared.lay.Owner.{Owner}
 use Rattle.cut_tree.specs.declared.lay.Owner.TheVariants as owner
 use Rattle.cut_tree.specs.declared.lay.Row.{Row}
 use Rattle.cut_tree.specs.Tree.{Tree, Piece, Rest, Trim, Cut, IsShaped, node_count, cut_count}
-use Rattle.cut_tree.specs.Cells.{Outcome, Made, LeftWhole, Spoiled, Split, Spot, spot_of, by_outcome, is_split, split_spot}
-use Rattle.cut_tree.specs.Laying.{CoversCell, IsSpot, IsLaid}
+use Rattle.cut_tree.specs.Cells.{Outcome, Made, LeftWhole, Spoiled, Split, Location, location_of, by_outcome, is_split, split_location}
+use Rattle.cut_tree.specs.Laying.{CoversCell, IsLocation, IsLaid}
 use Rattle.cut_tree.specs.Nodes.{rows_of, one_row, strip_row, split_rows, rows_by_outcome}
 
 -- the cell (i, j) is in the rectangle at (x, y) of w by h
@@ -23,12 +23,12 @@ pub record Inside (x y w h i j : ℕ) : Type 0 where
   pub bottom : j < y + h
 
 -- The rows share a region out. Their nodes rise, from n on and below m.
-pub record Covers (rows : List Row) (In : ℕ → ℕ → Type 0) (spot : ℕ → ℕ → Spot) (n m : ℕ) : Type 0 where
+pub record Covers (rows : List Row) (In : ℕ → ℕ → Type 0) (location : ℕ → ℕ → Location) (n m : ℕ) : Type 0 where
   pub low : All (λ r. n ≤ r.node) rows
   pub high : All (λ r. r.node < m) rows
   pub rising : AllPairs (λ r s. r.node < s.node) rows
   pub some_cell : All (λ r. (0 < r.w) × (0 < r.h)) rows
-  pub own : All (λ r. (i j : ℕ) → CoversCell r i j → In i j × IsSpot r (spot i j) i j) rows
+  pub own : All (λ r. (i j : ℕ) → CoversCell r i j → In i j × IsLocation r (location i j) i j) rows
   pub each : (i j : ℕ) → In i j → Any (λ r. CoversCell r i j) rows
 
 -- rows whose nodes rise, after rows with lower ones
@@ -74,37 +74,37 @@ Any-right P xs ys a =
       a.4,
     )
 
-module _ (In In' : ℕ → ℕ → Type 0) (spot spot' : ℕ → ℕ → Spot) where
+module _ (In In' : ℕ → ℕ → Type 0) (location location' : ℕ → ℕ → Location) where
   -- the same rows, said of the same region in other words
-  pub like : (rows : List Row) (n m n' m' : ℕ) → Covers rows In spot n m → n' ≤ n → m ≤ m' → ((i j : ℕ) → In i j → In' i j × (spot i j ≡ spot' i j)) → ((i j : ℕ) → In' i j → In i j) → Covers rows In' spot' n' m'
+  pub like : (rows : List Row) (n m n' m' : ℕ) → Covers rows In location n m → n' ≤ n → m ≤ m' → ((i j : ℕ) → In i j → In' i j × (location i j ≡ location' i j)) → ((i j : ℕ) → In' i j → In i j) → Covers rows In' location' n' m'
   like rows n m n' m' c below above to from = record {
     low = λ k d l. (let h : n ≤ (get_or rows k d).node = c.low k d l in omega arith);
     high = λ k d l. (let h : (get_or rows k d).node < m = c.high k d l in omega arith);
     rising = c.rising;
     some_cell = c.some_cell;
     own = λ k d l i j h.
-        (let o : In i j × IsSpot (get_or rows k d) (spot i j) i j = c.own k d l i j h in
-        let t : In' i j × (spot i j ≡ spot' i j) = to i j o.0 in
-        (t.0, subst (λ (s : Spot). IsSpot (get_or rows k d) s i j) t.1 o.1));
+        (let o : In i j × IsLocation (get_or rows k d) (location i j) i j = c.own k d l i j h in
+        let t : In' i j × (location i j ≡ location' i j) = to i j o.0 in
+        (t.0, subst (λ (s : Location). IsLocation (get_or rows k d) s i j) t.1 o.1));
     each = λ i j h. c.each i j (from i j h);
   }
 
 -- rows of one region and rows of another, whose nodes come after them
-pub both : (In In' : ℕ → ℕ → Type 0) (spot : ℕ → ℕ → Spot) (xs ys : List Row) (n m n' m' : ℕ) → Covers xs In spot n m → Covers ys In' spot n' m' → n ≤ n' → m ≤ n' → m ≤ m' → Covers (xs ++ ys) (λ i j. In i j ⊎ In' i j) spot n m'
-both In In' spot xs ys n m n' m' a b nn mn mm = record {
+pub both : (In In' : ℕ → ℕ → Type 0) (location : ℕ → ℕ → Location) (xs ys : List Row) (n m n' m' : ℕ) → Covers xs In location n m → Covers ys In' location n' m' → n ≤ n' → m ≤ n' → m ≤ m' → Covers (xs ++ ys) (λ i j. In i j ⊎ In' i j) location n m'
+both In In' location xs ys n m n' m' a b nn mn mm = record {
   low = All-append (λ r. n ≤ r.node) xs ys a.low (λ k d l. (let h : n' ≤ (get_or ys k d).node = b.low k d l in omega arith));
   high = All-append (λ r. r.node < m') xs ys (λ k d l. (let h : (get_or xs k d).node < m = a.high k d l in omega arith)) b.high;
   rising = rising-append xs ys m a.high (λ k d l. (let h : n' ≤ (get_or ys k d).node = b.low k d l in omega arith)) a.rising b.rising;
   some_cell = All-append (λ r. (0 < r.w) × (0 < r.h)) xs ys a.some_cell b.some_cell;
-  own = All-append (λ r. (i j : ℕ) → CoversCell r i j → (In i j ⊎ In' i j) × IsSpot r (spot i j) i j) xs ys
-      (λ k d l i j h. (let o : In i j × IsSpot (get_or xs k d) (spot i j) i j = a.own k d l i j h in (inl o.0, o.1)))
-      (λ k d l i j h. (let o : In' i j × IsSpot (get_or ys k d) (spot i j) i j = b.own k d l i j h in (inr o.0, o.1)));
+  own = All-append (λ r. (i j : ℕ) → CoversCell r i j → (In i j ⊎ In' i j) × IsLocation r (location i j) i j) xs ys
+      (λ k d l i j h. (let o : In i j × IsLocation (get_or xs k d) (location i j) i j = a.own k d l i j h in (inl o.0, o.1)))
+      (λ k d l i j h. (let o : In' i j × IsLocation (get_or ys k d) (location i j) i j = b.own k d l i j h in (inr o.0, o.1)));
   each = λ i j h. elim h [ inl p ↦ Any-left (λ r. CoversCell r i j) xs ys (a.each i j p) | inr p ↦ Any-right (λ r. CoversCell r i j) xs ys (b.each i j p) ];
 }
 
 -- no row for a region without cells
-pub none : (In : ℕ → ℕ → Type 0) (spot : ℕ → ℕ → Spot) (n m : ℕ) → ((i j : ℕ) → In i j → ⊥) → Covers [] In spot n m
-none In spot n m empty = record {
+pub none : (In : ℕ → ℕ → Type 0) (location : ℕ → ℕ → Location) (n m : ℕ) → ((i j : ℕ) → In i j → ⊥) → Covers [] In location n m
+none In location n m empty = record {
   low = λ k d l. absurd (omega arith);
   high = λ k d l. absurd (omega arith);
   rising = λ i j d lt l. absurd (omega arith);
@@ -120,7 +120,7 @@ one x y w h n owner w_some h_some = record {
   high = All-cons (λ r. r.node < n + 1) _ [] (omega arith) (λ k d l. absurd (omega arith));
   rising = λ i j d lt l. absurd (omega arith);
   some_cell = All-cons (λ r. (0 < r.w) × (0 < r.h)) _ [] (w_some, h_some) (λ k d l. absurd (omega arith));
-  own = All-cons (λ r. (i j : ℕ) → CoversCell r i j → Inside x y w h i j × IsSpot r (record { node = n; owner = owner; w = w; h = h; x = i - x; y = j - y }) i j) _ []
+  own = All-cons (λ r. (i j : ℕ) → CoversCell r i j → Inside x y w h i j × IsLocation r (record { node = n; owner = owner; w = w; h = h; x = i - x; y = j - y }) i j) _ []
       (λ i j t. (
         record { left = t.left; right = t.right; top = t.top; bottom = t.bottom },
         record { node = refl; owner = refl; w = refl; h = refl; x = omega arith; y = omega arith },
@@ -135,10 +135,10 @@ one x y w h n owner w_some h_some = record {
   );
 }
 
-if_lt : (p q : Spot) (i a : ℕ) → i < a → cond (ltb i a) p q ≡ p
+if_lt : (p q : Location) (i a : ℕ) → i < a → cond (ltb i a) p q ≡ p
 if_lt p q i a l = rw (lt-ltb i a l) refl
 
-if_ge : (p q : Spot) (i a : ℕ) → a ≤ i → cond (ltb i a) p q ≡ q
+if_ge : (p q : Location) (i a : ℕ) → a ≤ i → cond (ltb i a) p q ≡ q
 if_ge p q i a l = rw (le-ltb i a l) refl
 
 -- the strip of a saw that may have no width
@@ -147,21 +147,21 @@ strip zero x y w h n some empty = none _ _ n (n + 1) (λ i j t. elim (empty refl
 strip (suc k) x y w h n some empty = let pos : 0 < suc k = omega arith in one x y w h n owner.Kerf (some pos).0 (some pos).1
 
 -- The same for a cut along X that has no second part.
-module _ (x y w h a n m : ℕ) (f s : ℕ → ℕ → Spot) (kerf first : List Row) where
+module _ (x y w h a n m : ℕ) (f s : ℕ → ℕ → Location) (kerf first : List Row) where
   pub trim_x : a < w → n + 1 ≤ m →
       Covers kerf (Inside (x + a) y (w - a) h) s n (n + 1) →
       Covers first (Inside x y a h) f (n + 1) m →
       Covers (kerf ++ first) (Inside x y w h) (λ i j. cond (ltb (i - x) a) (f i j) (s i j)) n m
   trim_x fits nm ck cf =
-      let spot : ℕ → ℕ → Spot = λ i j. cond (ltb (i - x) a) (f i j) (s i j) in
+      let location : ℕ → ℕ → Location = λ i j. cond (ltb (i - x) a) (f i j) (s i j) in
       let In1 : ℕ → ℕ → Type 0 = λ i j. Inside (x + a) y (w - a) h i j in
       let In2 : ℕ → ℕ → Type 0 = λ i j. Inside x y a h i j in
-      let ck' : Covers kerf In1 spot n (n + 1) = like In1 In1 s spot kerf n (n + 1) n (n + 1) ck (omega arith) (omega arith)
+      let ck' : Covers kerf In1 location n (n + 1) = like In1 In1 s location kerf n (n + 1) n (n + 1) ck (omega arith) (omega arith)
       (λ i j t. (t, sym (if_ge (f i j) (s i j) (i - x) a (omega arith)))) (λ i j t. t) in
-      let cf' : Covers first In2 spot (n + 1) m = like In2 In2 f spot first (n + 1) m (n + 1) m cf (omega arith) (omega arith)
+      let cf' : Covers first In2 location (n + 1) m = like In2 In2 f location first (n + 1) m (n + 1) m cf (omega arith) (omega arith)
       (λ i j t. (t, sym (if_lt (f i j) (s i j) (i - x) a (omega arith)))) (λ i j t. t) in
-      let two : Covers (kerf ++ first) (λ i j. In1 i j ⊎ In2 i j) spot n m = both In1 In2 spot kerf first n (n + 1) (n + 1) m ck' cf' (omega arith) (omega arith) (omega arith) in
-      like (λ i j. In1 i j ⊎ In2 i j) (Inside x y w h) spot spot (kerf ++ first) n m n m two (omega arith) (omega arith)
+      let two : Covers (kerf ++ first) (λ i j. In1 i j ⊎ In2 i j) location n m = both In1 In2 location kerf first n (n + 1) (n + 1) m ck' cf' (omega arith) (omega arith) (omega arith) in
+      like (λ i j. In1 i j ⊎ In2 i j) (Inside x y w h) location location (kerf ++ first) n m n m two (omega arith) (omega arith)
       (λ i j t. (
         elim t [
           | inl u ↦ record { left = omega arith; right = omega arith; top = omega arith; bottom = omega arith }
@@ -175,21 +175,21 @@ module _ (x y w h a n m : ℕ) (f s : ℕ → ℕ → Spot) (kerf first : List R
       ])
 
 -- The same for a cut along Y that has no second part.
-module _ (x y w h a n m : ℕ) (f s : ℕ → ℕ → Spot) (kerf first : List Row) where
+module _ (x y w h a n m : ℕ) (f s : ℕ → ℕ → Location) (kerf first : List Row) where
   pub trim_y : a < h → n + 1 ≤ m →
       Covers kerf (Inside x (y + a) w (h - a)) s n (n + 1) →
       Covers first (Inside x y w a) f (n + 1) m →
       Covers (kerf ++ first) (Inside x y w h) (λ i j. cond (ltb (j - y) a) (f i j) (s i j)) n m
   trim_y fits nm ck cf =
-      let spot : ℕ → ℕ → Spot = λ i j. cond (ltb (j - y) a) (f i j) (s i j) in
+      let location : ℕ → ℕ → Location = λ i j. cond (ltb (j - y) a) (f i j) (s i j) in
       let In1 : ℕ → ℕ → Type 0 = λ i j. Inside x (y + a) w (h - a) i j in
       let In2 : ℕ → ℕ → Type 0 = λ i j. Inside x y w a i j in
-      let ck' : Covers kerf In1 spot n (n + 1) = like In1 In1 s spot kerf n (n + 1) n (n + 1) ck (omega arith) (omega arith)
+      let ck' : Covers kerf In1 location n (n + 1) = like In1 In1 s location kerf n (n + 1) n (n + 1) ck (omega arith) (omega arith)
       (λ i j t. (t, sym (if_ge (f i j) (s i j) (j - y) a (omega arith)))) (λ i j t. t) in
-      let cf' : Covers first In2 spot (n + 1) m = like In2 In2 f spot first (n + 1) m (n + 1) m cf (omega arith) (omega arith)
+      let cf' : Covers first In2 location (n + 1) m = like In2 In2 f location first (n + 1) m (n + 1) m cf (omega arith) (omega arith)
       (λ i j t. (t, sym (if_lt (f i j) (s i j) (j - y) a (omega arith)))) (λ i j t. t) in
-      let two : Covers (kerf ++ first) (λ i j. In1 i j ⊎ In2 i j) spot n m = both In1 In2 spot kerf first n (n + 1) (n + 1) m ck' cf' (omega arith) (omega arith) (omega arith) in
-      like (λ i j. In1 i j ⊎ In2 i j) (Inside x y w h) spot spot (kerf ++ first) n m n m two (omega arith) (omega arith)
+      let two : Covers (kerf ++ first) (λ i j. In1 i j ⊎ In2 i j) location n m = both In1 In2 location kerf first n (n + 1) (n + 1) m ck' cf' (omega arith) (omega arith) (omega arith) in
+      like (λ i j. In1 i j ⊎ In2 i j) (Inside x y w h) location location (kerf ++ first) n m n m two (omega arith) (omega arith)
       (λ i j t. (
         elim t [
           | inl u ↦ record { left = omega arith; right = omega arith; top = omega arith; bottom = omega arith }
@@ -203,26 +203,26 @@ module _ (x y w h a n m : ℕ) (f s : ℕ → ℕ → Spot) (kerf first : List R
       ])
 
 -- The parts of a rectangle that a cut along X makes, after one another, share it out.
-module _ (x y w h k a n n1 n2 m : ℕ) (f s g : ℕ → ℕ → Spot) (kerf first second : List Row) where
+module _ (x y w h k a n n1 n2 m : ℕ) (f s g : ℕ → ℕ → Location) (kerf first second : List Row) where
   pub cut_x : a + k < w → n + 1 ≤ n1 → n1 ≤ n2 → n2 ≤ m →
       Covers kerf (Inside (x + a) y k h) s n (n + 1) →
       Covers first (Inside x y a h) f n1 n2 →
       Covers second (Inside (x + a + k) y (w - a - k) h) g n2 m →
       Covers (kerf ++ first ++ second) (Inside x y w h) (λ i j. cond (ltb (i - x) a) (f i j) (cond (ltb (i - x) (a + k)) (s i j) (g i j))) n m
   cut_x fits nn1 n12 n2m ck cf cs =
-      let spot : ℕ → ℕ → Spot = λ i j. cond (ltb (i - x) a) (f i j) (cond (ltb (i - x) (a + k)) (s i j) (g i j)) in
+      let location : ℕ → ℕ → Location = λ i j. cond (ltb (i - x) a) (f i j) (cond (ltb (i - x) (a + k)) (s i j) (g i j)) in
       let In1 : ℕ → ℕ → Type 0 = λ i j. Inside (x + a) y k h i j in
       let In2 : ℕ → ℕ → Type 0 = λ i j. Inside x y a h i j in
       let In3 : ℕ → ℕ → Type 0 = λ i j. Inside (x + a + k) y (w - a - k) h i j in
-      let ck' : Covers kerf In1 spot n (n + 1) = like In1 In1 s spot kerf n (n + 1) n (n + 1) ck (omega arith) (omega arith)
+      let ck' : Covers kerf In1 location n (n + 1) = like In1 In1 s location kerf n (n + 1) n (n + 1) ck (omega arith) (omega arith)
       (λ i j t. (t, sym (if_ge (f i j) _ (i - x) a (omega arith) ∙ if_lt (s i j) (g i j) (i - x) (a + k) (omega arith)))) (λ i j t. t) in
-      let cf' : Covers first In2 spot n1 n2 = like In2 In2 f spot first n1 n2 n1 n2 cf (omega arith) (omega arith)
+      let cf' : Covers first In2 location n1 n2 = like In2 In2 f location first n1 n2 n1 n2 cf (omega arith) (omega arith)
       (λ i j t. (t, sym (if_lt (f i j) _ (i - x) a (omega arith)))) (λ i j t. t) in
-      let cs' : Covers second In3 spot n2 m = like In3 In3 g spot second n2 m n2 m cs (omega arith) (omega arith)
+      let cs' : Covers second In3 location n2 m = like In3 In3 g location second n2 m n2 m cs (omega arith) (omega arith)
       (λ i j t. (t, sym (if_ge (f i j) _ (i - x) a (omega arith) ∙ if_ge (s i j) (g i j) (i - x) (a + k) (omega arith)))) (λ i j t. t) in
-      let two : Covers (kerf ++ first) (λ i j. In1 i j ⊎ In2 i j) spot n n2 = both In1 In2 spot kerf first n (n + 1) n1 n2 ck' cf' (omega arith) (omega arith) (omega arith) in
-      let three : Covers ((kerf ++ first) ++ second) (λ i j. (In1 i j ⊎ In2 i j) ⊎ In3 i j) spot n m = both (λ i j. In1 i j ⊎ In2 i j) In3 spot (kerf ++ first) second n n2 n2 m two cs' (omega arith) (omega arith) (omega arith) in
-      like (λ i j. (In1 i j ⊎ In2 i j) ⊎ In3 i j) (Inside x y w h) spot spot ((kerf ++ first) ++ second) n m n m three (omega arith) (omega arith)
+      let two : Covers (kerf ++ first) (λ i j. In1 i j ⊎ In2 i j) location n n2 = both In1 In2 location kerf first n (n + 1) n1 n2 ck' cf' (omega arith) (omega arith) (omega arith) in
+      let three : Covers ((kerf ++ first) ++ second) (λ i j. (In1 i j ⊎ In2 i j) ⊎ In3 i j) location n m = both (λ i j. In1 i j ⊎ In2 i j) In3 location (kerf ++ first) second n n2 n2 m two cs' (omega arith) (omega arith) (omega arith) in
+      like (λ i j. (In1 i j ⊎ In2 i j) ⊎ In3 i j) (Inside x y w h) location location ((kerf ++ first) ++ second) n m n m three (omega arith) (omega arith)
       (λ i j t. (
         elim t [
           | inl t' ↦ elim t' [
@@ -242,26 +242,26 @@ module _ (x y w h k a n n1 n2 m : ℕ) (f s g : ℕ → ℕ → Spot) (kerf firs
       ])
 
 -- The parts of a rectangle that a cut along Y makes, after one another, share it out.
-module _ (x y w h k a n n1 n2 m : ℕ) (f s g : ℕ → ℕ → Spot) (kerf first second : List Row) where
+module _ (x y w h k a n n1 n2 m : ℕ) (f s g : ℕ → ℕ → Location) (kerf first second : List Row) where
   pub cut_y : a + k < h → n + 1 ≤ n1 → n1 ≤ n2 → n2 ≤ m →
       Covers kerf (Inside x (y + a) w k) s n (n + 1) →
       Covers first (Inside x y w a) f n1 n2 →
       Covers second (Inside x (y + a + k) w (h - a - k)) g n2 m →
       Covers (kerf ++ first ++ second) (Inside x y w h) (λ i j. cond (ltb (j - y) a) (f i j) (cond (ltb (j - y) (a + k)) (s i j) (g i j))) n m
   cut_y fits nn1 n12 n2m ck cf cs =
-      let spot : ℕ → ℕ → Spot = λ i j. cond (ltb (j - y) a) (f i j) (cond (ltb (j - y) (a + k)) (s i j) (g i j)) in
+      let location : ℕ → ℕ → Location = λ i j. cond (ltb (j - y) a) (f i j) (cond (ltb (j - y) (a + k)) (s i j) (g i j)) in
       let In1 : ℕ → ℕ → Type 0 = λ i j. Inside x (y + a) w k i j in
       let In2 : ℕ → ℕ → Type 0 = λ i j. Inside x y w a i j in
       let In3 : ℕ → ℕ → Type 0 = λ i j. Inside x (y + a + k) w (h - a - k) i j in
-      let ck' : Covers kerf In1 spot n (n + 1) = like In1 In1 s spot kerf n (n + 1) n (n + 1) ck (omega arith) (omega arith)
+      let ck' : Covers kerf In1 location n (n + 1) = like In1 In1 s location kerf n (n + 1) n (n + 1) ck (omega arith) (omega arith)
       (λ i j t. (t, sym (if_ge (f i j) _ (j - y) a (omega arith) ∙ if_lt (s i j) (g i j) (j - y) (a + k) (omega arith)))) (λ i j t. t) in
-      let cf' : Covers first In2 spot n1 n2 = like In2 In2 f spot first n1 n2 n1 n2 cf (omega arith) (omega arith)
+      let cf' : Covers first In2 location n1 n2 = like In2 In2 f location first n1 n2 n1 n2 cf (omega arith) (omega arith)
       (λ i j t. (t, sym (if_lt (f i j) _ (j - y) a (omega arith)))) (λ i j t. t) in
-      let cs' : Covers second In3 spot n2 m = like In3 In3 g spot second n2 m n2 m cs (omega arith) (omega arith)
+      let cs' : Covers second In3 location n2 m = like In3 In3 g location second n2 m n2 m cs (omega arith) (omega arith)
       (λ i j t. (t, sym (if_ge (f i j) _ (j - y) a (omega arith) ∙ if_ge (s i j) (g i j) (j - y) (a + k) (omega arith)))) (λ i j t. t) in
-      let two : Covers (kerf ++ first) (λ i j. In1 i j ⊎ In2 i j) spot n n2 = both In1 In2 spot kerf first n (n + 1) n1 n2 ck' cf' (omega arith) (omega arith) (omega arith) in
-      let three : Covers ((kerf ++ first) ++ second) (λ i j. (In1 i j ⊎ In2 i j) ⊎ In3 i j) spot n m = both (λ i j. In1 i j ⊎ In2 i j) In3 spot (kerf ++ first) second n n2 n2 m two cs' (omega arith) (omega arith) (omega arith) in
-      like (λ i j. (In1 i j ⊎ In2 i j) ⊎ In3 i j) (Inside x y w h) spot spot ((kerf ++ first) ++ second) n m n m three (omega arith) (omega arith)
+      let two : Covers (kerf ++ first) (λ i j. In1 i j ⊎ In2 i j) location n n2 = both In1 In2 location kerf first n (n + 1) n1 n2 ck' cf' (omega arith) (omega arith) (omega arith) in
+      let three : Covers ((kerf ++ first) ++ second) (λ i j. (In1 i j ⊎ In2 i j) ⊎ In3 i j) location n m = both (λ i j. In1 i j ⊎ In2 i j) In3 location (kerf ++ first) second n n2 n2 m two cs' (omega arith) (omega arith) (omega arith) in
+      like (λ i j. (In1 i j ⊎ In2 i j) ⊎ In3 i j) (Inside x y w h) location location ((kerf ++ first) ++ second) n m n m three (omega arith) (omega arith)
       (λ i j t. (
         elim t [
           | inl t' ↦ elim t' [
@@ -288,7 +288,7 @@ minus_two i x a k = omega arith
 
 -- what a tree's rows have to share out
 abbrev Shares : Tree → (x y w h k : ℕ) → (ℕ → Outcome) → (n c : ℕ) → Type 0
-Shares t x y w h k outcome n c = Covers (rows_of t x y w h k outcome n c) (Inside x y w h) (λ i j. spot_of t w h k outcome n c (i - x) (j - y)) n (n + node_count t)
+Shares t x y w h k outcome n c = Covers (rows_of t x y w h k outcome n c) (Inside x y w h) (λ i j. location_of t w h k outcome n c (i - x) (j - y)) n (n + node_count t)
 
 -- a tree has a node
 some_node : (t : Tree) → 1 ≤ node_count t
@@ -299,7 +299,7 @@ some_node (Cut axis a first second) = omega arith
 
 -- the columns of a rectangle that are lost, and those that are left after them
 module _ (x y w h n rest : ℕ) where
-  split_x : 0 < w → 0 < h → Covers (split_rows X n x y w h rest) (Inside x y w h) (λ i j. split_spot X n w h rest (i - x) (j - y)) n (n + 2)
+  split_x : 0 < w → 0 < h → Covers (split_rows X n x y w h rest) (Inside x y w h) (λ i j. split_location X n w h rest (i - x) (j - y)) n (n + 2)
   split_x wp hp = by (is_split rest w) refl
     where
       by : (b : Bool) → is_split rest w ≡ b
@@ -311,20 +311,20 @@ module _ (x y w h n rest : ℕ) where
           let both_parts = and_parts (ltb 0 rest) (ltb rest w) e in
           let some : 0 < rest = ltb-true 0 rest both_parts.0 in
           let less : rest < w = ltb-true rest w both_parts.1 in
-          let f : ℕ → ℕ → Spot = λ i j. record { node = n; owner = owner.Lost; w = w - rest; h = h; x = i - x; y = j - y } in
-          let g : ℕ → ℕ → Spot = λ i j. record { node = n + 1; owner = owner.Rest; w = rest; h = h; x = i - x - (w - rest); y = j - y } in
-          let spot : ℕ → ℕ → Spot = λ i j. cond (ltb (i - x) (w - rest)) (f i j) (g i j) in
+          let f : ℕ → ℕ → Location = λ i j. record { node = n; owner = owner.Lost; w = w - rest; h = h; x = i - x; y = j - y } in
+          let g : ℕ → ℕ → Location = λ i j. record { node = n + 1; owner = owner.Rest; w = rest; h = h; x = i - x - (w - rest); y = j - y } in
+          let location : ℕ → ℕ → Location = λ i j. cond (ltb (i - x) (w - rest)) (f i j) (g i j) in
           let In1 : ℕ → ℕ → Type 0 = λ i j. Inside x y (w - rest) h i j in
           let In2 : ℕ → ℕ → Type 0 = λ i j. Inside (x + (w - rest)) y rest h i j in
-          let lost : Covers (one_row n x y (w - rest) h owner.Lost) In1 spot n (n + 1) =
-          like In1 In1 f spot _ n (n + 1) n (n + 1) (one x y (w - rest) h n owner.Lost (omega arith) hp) (omega arith) (omega arith)
+          let lost : Covers (one_row n x y (w - rest) h owner.Lost) In1 location n (n + 1) =
+          like In1 In1 f location _ n (n + 1) n (n + 1) (one x y (w - rest) h n owner.Lost (omega arith) hp) (omega arith) (omega arith)
           (λ i j t. (t, sym (if_lt (f i j) (g i j) (i - x) (w - rest) (omega arith)))) (λ i j t. t) in
-          let left : Covers (one_row (n + 1) (x + (w - rest)) y rest h owner.Rest) In2 spot (n + 1) (n + 2) =
-          like In2 In2 (λ i j. record { node = n + 1; owner = owner.Rest; w = rest; h = h; x = i - (x + (w - rest)); y = j - y }) spot _ (n + 1) (n + 1 + 1) (n + 1) (n + 2)
+          let left : Covers (one_row (n + 1) (x + (w - rest)) y rest h owner.Rest) In2 location (n + 1) (n + 2) =
+          like In2 In2 (λ i j. record { node = n + 1; owner = owner.Rest; w = rest; h = h; x = i - (x + (w - rest)); y = j - y }) location _ (n + 1) (n + 1 + 1) (n + 1) (n + 2)
           (one (x + (w - rest)) y rest h (n + 1) owner.Rest some hp) (omega arith) (omega arith)
-          (λ i j t. (t, ap (λ v. (let r : Spot = record { node = n + 1; owner = owner.Rest; w = rest; h = h; x = v; y = j - y } in r)) (minus i x (w - rest)) ∙ sym (if_ge (f i j) (g i j) (i - x) (w - rest) (omega arith)))) (λ i j t. t) in
-          like (λ i j. In1 i j ⊎ In2 i j) (Inside x y w h) spot spot _ n (n + 2) n (n + 2)
-          (both In1 In2 spot _ _ n (n + 1) (n + 1) (n + 2) lost left (omega arith) (omega arith) (omega arith)) (omega arith) (omega arith)
+          (λ i j t. (t, ap (λ v. (let r : Location = record { node = n + 1; owner = owner.Rest; w = rest; h = h; x = v; y = j - y } in r)) (minus i x (w - rest)) ∙ sym (if_ge (f i j) (g i j) (i - x) (w - rest) (omega arith)))) (λ i j t. t) in
+          like (λ i j. In1 i j ⊎ In2 i j) (Inside x y w h) location location _ n (n + 2) n (n + 2)
+          (both In1 In2 location _ _ n (n + 1) (n + 1) (n + 2) lost left (omega arith) (omega arith) (omega arith)) (omega arith) (omega arith)
           (λ i j t. (
             elim t [
               | inl v ↦ record { left = omega arith; right = omega arith; top = omega arith; bottom = omega arith }
@@ -340,7 +340,7 @@ module _ (x y w h n rest : ℕ) where
           like _ _ (λ i j. record { node = n; owner = owner.Lost; w = w; h = h; x = i - x; y = j - y }) _ _ n (n + 1) n (n + 2) (one x y w h n owner.Lost wp hp) (omega arith) (omega arith) (λ i j t. (t, refl)) (λ i j t. t)
 
   -- the same of rows
-  split_y : 0 < w → 0 < h → Covers (split_rows Y n x y w h rest) (Inside x y w h) (λ i j. split_spot Y n w h rest (i - x) (j - y)) n (n + 2)
+  split_y : 0 < w → 0 < h → Covers (split_rows Y n x y w h rest) (Inside x y w h) (λ i j. split_location Y n w h rest (i - x) (j - y)) n (n + 2)
   split_y wp hp = by (is_split rest h) refl
     where
       by : (b : Bool) → is_split rest h ≡ b
@@ -352,20 +352,20 @@ module _ (x y w h n rest : ℕ) where
           let both_parts = and_parts (ltb 0 rest) (ltb rest h) e in
           let some : 0 < rest = ltb-true 0 rest both_parts.0 in
           let less : rest < h = ltb-true rest h both_parts.1 in
-          let f : ℕ → ℕ → Spot = λ i j. record { node = n; owner = owner.Lost; w = w; h = h - rest; x = i - x; y = j - y } in
-          let g : ℕ → ℕ → Spot = λ i j. record { node = n + 1; owner = owner.Rest; w = w; h = rest; x = i - x; y = j - y - (h - rest) } in
-          let spot : ℕ → ℕ → Spot = λ i j. cond (ltb (j - y) (h - rest)) (f i j) (g i j) in
+          let f : ℕ → ℕ → Location = λ i j. record { node = n; owner = owner.Lost; w = w; h = h - rest; x = i - x; y = j - y } in
+          let g : ℕ → ℕ → Location = λ i j. record { node = n + 1; owner = owner.Rest; w = w; h = rest; x = i - x; y = j - y - (h - rest) } in
+          let location : ℕ → ℕ → Location = λ i j. cond (ltb (j - y) (h - rest)) (f i j) (g i j) in
           let In1 : ℕ → ℕ → Type 0 = λ i j. Inside x y w (h - rest) i j in
           let In2 : ℕ → ℕ → Type 0 = λ i j. Inside x (y + (h - rest)) w rest i j in
-          let lost : Covers (one_row n x y w (h - rest) owner.Lost) In1 spot n (n + 1) =
-          like In1 In1 f spot _ n (n + 1) n (n + 1) (one x y w (h - rest) n owner.Lost wp (omega arith)) (omega arith) (omega arith)
+          let lost : Covers (one_row n x y w (h - rest) owner.Lost) In1 location n (n + 1) =
+          like In1 In1 f location _ n (n + 1) n (n + 1) (one x y w (h - rest) n owner.Lost wp (omega arith)) (omega arith) (omega arith)
           (λ i j t. (t, sym (if_lt (f i j) (g i j) (j - y) (h - rest) (omega arith)))) (λ i j t. t) in
-          let left : Covers (one_row (n + 1) x (y + (h - rest)) w rest owner.Rest) In2 spot (n + 1) (n + 2) =
-          like In2 In2 (λ i j. record { node = n + 1; owner = owner.Rest; w = w; h = rest; x = i - x; y = j - (y + (h - rest)) }) spot _ (n + 1) (n + 1 + 1) (n + 1) (n + 2)
+          let left : Covers (one_row (n + 1) x (y + (h - rest)) w rest owner.Rest) In2 location (n + 1) (n + 2) =
+          like In2 In2 (λ i j. record { node = n + 1; owner = owner.Rest; w = w; h = rest; x = i - x; y = j - (y + (h - rest)) }) location _ (n + 1) (n + 1 + 1) (n + 1) (n + 2)
           (one x (y + (h - rest)) w rest (n + 1) owner.Rest wp some) (omega arith) (omega arith)
-          (λ i j t. (t, ap (λ v. (let r : Spot = record { node = n + 1; owner = owner.Rest; w = w; h = rest; x = i - x; y = v } in r)) (minus j y (h - rest)) ∙ sym (if_ge (f i j) (g i j) (j - y) (h - rest) (omega arith)))) (λ i j t. t) in
-          like (λ i j. In1 i j ⊎ In2 i j) (Inside x y w h) spot spot _ n (n + 2) n (n + 2)
-          (both In1 In2 spot _ _ n (n + 1) (n + 1) (n + 2) lost left (omega arith) (omega arith) (omega arith)) (omega arith) (omega arith)
+          (λ i j t. (t, ap (λ v. (let r : Location = record { node = n + 1; owner = owner.Rest; w = w; h = rest; x = i - x; y = v } in r)) (minus j y (h - rest)) ∙ sym (if_ge (f i j) (g i j) (j - y) (h - rest) (omega arith)))) (λ i j t. t) in
+          like (λ i j. In1 i j ⊎ In2 i j) (Inside x y w h) location location _ n (n + 2) n (n + 2)
+          (both In1 In2 location _ _ n (n + 1) (n + 1) (n + 2) lost left (omega arith) (omega arith) (omega arith)) (omega arith) (omega arith)
           (λ i j t. (
             elim t [
               | inl v ↦ record { left = omega arith; right = omega arith; top = omega arith; bottom = omega arith }
@@ -380,36 +380,36 @@ module _ (x y w h n rest : ℕ) where
       by false e =
           like _ _ (λ i j. record { node = n; owner = owner.Lost; w = w; h = h; x = i - x; y = j - y }) _ _ n (n + 1) n (n + 2) (one x y w h n owner.Lost wp hp) (omega arith) (omega arith) (λ i j t. (t, refl)) (λ i j t. t)
 
-  split : (axis : Axis) → 0 < w → 0 < h → Covers (split_rows axis n x y w h rest) (Inside x y w h) (λ i j. split_spot axis n w h rest (i - x) (j - y)) n (n + 2)
+  split : (axis : Axis) → 0 < w → 0 < h → Covers (split_rows axis n x y w h rest) (Inside x y w h) (λ i j. split_location axis n w h rest (i - x) (j - y)) n (n + 2)
   split X = split_x
   split Y = split_y
 
 -- the rectangle of a cut that isn't made, or what its parts share out
-by_cases : (axis : Axis) (v : Outcome) (made : List Row) (spot : ℕ → ℕ → Spot) (x y w h n m : ℕ) → 0 < w → 0 < h → n + 2 ≤ m → Covers made (Inside x y w h) spot n m →
+by_cases : (axis : Axis) (v : Outcome) (made : List Row) (location : ℕ → ℕ → Location) (x y w h n m : ℕ) → 0 < w → 0 < h → n + 2 ≤ m → Covers made (Inside x y w h) location n m →
     Covers (rows_by_outcome axis v made n x y w h) (Inside x y w h)
-    (λ i j. by_outcome v (spot i j) (record { node = n; owner = owner.Uncut; w = w; h = h; x = i - x; y = j - y }) (record { node = n; owner = owner.Lost; w = w; h = h; x = i - x; y = j - y })
-    (λ rest. split_spot axis n w h rest (i - x) (j - y))) n m
-by_cases axis Made made spot x y w h n m wp hp nm c = c
-by_cases axis LeftWhole made spot x y w h n m wp hp nm c =
+    (λ i j. by_outcome v (location i j) (record { node = n; owner = owner.Uncut; w = w; h = h; x = i - x; y = j - y }) (record { node = n; owner = owner.Lost; w = w; h = h; x = i - x; y = j - y })
+    (λ rest. split_location axis n w h rest (i - x) (j - y))) n m
+by_cases axis Made made location x y w h n m wp hp nm c = c
+by_cases axis LeftWhole made location x y w h n m wp hp nm c =
     like _ _ (λ i j. record { node = n; owner = owner.Uncut; w = w; h = h; x = i - x; y = j - y }) _ _ n (n + 1) n m (one x y w h n owner.Uncut wp hp) (omega arith) (omega arith) (λ i j t. (t, refl)) (λ i j t. t)
-by_cases axis Spoiled made spot x y w h n m wp hp nm c =
+by_cases axis Spoiled made location x y w h n m wp hp nm c =
     like _ _ (λ i j. record { node = n; owner = owner.Lost; w = w; h = h; x = i - x; y = j - y }) _ _ n (n + 1) n m (one x y w h n owner.Lost wp hp) (omega arith) (omega arith) (λ i j t. (t, refl)) (λ i j t. t)
-by_cases axis (Split rest) made spot x y w h n m wp hp nm c =
-    like _ _ (λ i j. split_spot axis n w h rest (i - x) (j - y)) _ _ n (n + 2) n m (split x y w h n rest axis wp hp) (omega arith) nm (λ i j t. (t, refl)) (λ i j t. t)
+by_cases axis (Split rest) made location x y w h n m wp hp nm c =
+    like _ _ (λ i j. split_location axis n w h rest (i - x) (j - y)) _ _ n (n + 2) n m (split x y w h n rest axis wp hp) (omega arith) nm (λ i j t. (t, refl)) (λ i j t. t)
 
 -- The rows of a tree share its rectangle out.
 pub covers : (t : Tree) (x y w h k : ℕ) (outcome : ℕ → Outcome) (n c : ℕ) → 0 < w → 0 < h → IsShaped t w h k → Shares t x y w h k outcome n c
-unfolding spot_of
+unfolding location_of
 covers (Piece d turned) x y w h k outcome n c wp hp shaped = one x y w h n (owner.Piece d) wp hp
 covers Rest x y w h k outcome n c wp hp shaped = one x y w h n owner.Rest wp hp
 covers (Trim X a first) x y w h k outcome n c wp hp shaped =
     let ap_ : 1 ≤ a = shaped.0 in let fits : a < w = shaped.1 in let reach : w ≤ a + k = shaped.2 in
-    let f : ℕ → ℕ → Spot = λ i j. spot_of first a h k outcome (n + 1) (c + 1) (i - x) (j - y) in
-    let s : ℕ → ℕ → Spot = λ i j. record { node = n; owner = owner.Kerf; w = w - a; h = h; x = i - x - a; y = j - y } in
+    let f : ℕ → ℕ → Location = λ i j. location_of first a h k outcome (n + 1) (c + 1) (i - x) (j - y) in
+    let s : ℕ → ℕ → Location = λ i j. record { node = n; owner = owner.Kerf; w = w - a; h = h; x = i - x - a; y = j - y } in
     let ck : Covers (strip_row k n (x + a) y (w - a) h) (Inside (x + a) y (w - a) h) s n (n + 1) =
     like (Inside (x + a) y (w - a) h) (Inside (x + a) y (w - a) h) (λ i j. record { node = n; owner = owner.Kerf; w = w - a; h = h; x = i - (x + a); y = j - y }) s _ n (n + 1) n (n + 1)
     (strip k (x + a) y (w - a) h n (λ z. (omega arith, hp)) (λ z. inl (omega arith))) (omega arith) (omega arith)
-    (λ i j t. (t, ap (λ v. (let r : Spot = record { node = n; owner = owner.Kerf; w = w - a; h = h; x = v; y = j - y } in r)) (minus i x a))) (λ i j t. t) in
+    (λ i j t. (t, ap (λ v. (let r : Location = record { node = n; owner = owner.Kerf; w = w - a; h = h; x = v; y = j - y } in r)) (minus i x a))) (λ i j t. t) in
     let cf : Covers (rows_of first x y a h k outcome (n + 1) (c + 1)) (Inside x y a h) f (n + 1) (n + 1 + node_count first) =
     covers first x y a h k outcome (n + 1) (c + 1) (omega arith) (omega arith) shaped.3 in
     let all : Covers (strip_row k n (x + a) y (w - a) h ++ rows_of first x y a h k outcome (n + 1) (c + 1)) (Inside x y w h) (λ i j. cond (ltb (i - x) a) (f i j) (s i j)) n (n + (1 + node_count first)) =
@@ -419,12 +419,12 @@ covers (Trim X a first) x y w h k outcome n c wp hp shaped =
     by_cases X (outcome c) _ (λ i j. cond (ltb (i - x) a) (f i j) (s i j)) x y w h n (n + (1 + node_count first)) wp hp (omega (arith, least)) all
 covers (Trim Y a first) x y w h k outcome n c wp hp shaped =
     let ap_ : 1 ≤ a = shaped.0 in let fits : a < h = shaped.1 in let reach : h ≤ a + k = shaped.2 in
-    let f : ℕ → ℕ → Spot = λ i j. spot_of first w a k outcome (n + 1) (c + 1) (i - x) (j - y) in
-    let s : ℕ → ℕ → Spot = λ i j. record { node = n; owner = owner.Kerf; w = w; h = h - a; x = i - x; y = j - y - a } in
+    let f : ℕ → ℕ → Location = λ i j. location_of first w a k outcome (n + 1) (c + 1) (i - x) (j - y) in
+    let s : ℕ → ℕ → Location = λ i j. record { node = n; owner = owner.Kerf; w = w; h = h - a; x = i - x; y = j - y - a } in
     let ck : Covers (strip_row k n x (y + a) w (h - a)) (Inside x (y + a) w (h - a)) s n (n + 1) =
     like (Inside x (y + a) w (h - a)) (Inside x (y + a) w (h - a)) (λ i j. record { node = n; owner = owner.Kerf; w = w; h = h - a; x = i - x; y = j - (y + a) }) s _ n (n + 1) n (n + 1)
     (strip k x (y + a) w (h - a) n (λ z. (wp, omega arith)) (λ z. inr (omega arith))) (omega arith) (omega arith)
-    (λ i j t. (t, ap (λ v. (let r : Spot = record { node = n; owner = owner.Kerf; w = w; h = h - a; x = i - x; y = v } in r)) (minus j y a))) (λ i j t. t) in
+    (λ i j t. (t, ap (λ v. (let r : Location = record { node = n; owner = owner.Kerf; w = w; h = h - a; x = i - x; y = v } in r)) (minus j y a))) (λ i j t. t) in
     let cf : Covers (rows_of first x y w a k outcome (n + 1) (c + 1)) (Inside x y w a) f (n + 1) (n + 1 + node_count first) =
     covers first x y w a k outcome (n + 1) (c + 1) (omega arith) (omega arith) shaped.3 in
     let all : Covers (strip_row k n x (y + a) w (h - a) ++ rows_of first x y w a k outcome (n + 1) (c + 1)) (Inside x y w h) (λ i j. cond (ltb (j - y) a) (f i j) (s i j)) n (n + (1 + node_count first)) =
@@ -434,19 +434,19 @@ covers (Trim Y a first) x y w h k outcome n c wp hp shaped =
     by_cases Y (outcome c) _ (λ i j. cond (ltb (j - y) a) (f i j) (s i j)) x y w h n (n + (1 + node_count first)) wp hp (omega (arith, least)) all
 covers (Cut X a first second) x y w h k outcome n c wp hp shaped =
     let ap_ : 1 ≤ a = shaped.0 in let fits : a + k < w = shaped.1 in
-    let f : ℕ → ℕ → Spot = λ i j. spot_of first a h k outcome (n + 1) (c + 1) (i - x) (j - y) in
-    let s : ℕ → ℕ → Spot = λ i j. record { node = n; owner = owner.Kerf; w = k; h = h; x = i - x - a; y = j - y } in
-    let g : ℕ → ℕ → Spot = λ i j. spot_of second (w - a - k) h k outcome (n + 1 + node_count first) (c + 1 + cut_count first) (i - x - a - k) (j - y) in
+    let f : ℕ → ℕ → Location = λ i j. location_of first a h k outcome (n + 1) (c + 1) (i - x) (j - y) in
+    let s : ℕ → ℕ → Location = λ i j. record { node = n; owner = owner.Kerf; w = k; h = h; x = i - x - a; y = j - y } in
+    let g : ℕ → ℕ → Location = λ i j. location_of second (w - a - k) h k outcome (n + 1 + node_count first) (c + 1 + cut_count first) (i - x - a - k) (j - y) in
     let ck : Covers (strip_row k n (x + a) y k h) (Inside (x + a) y k h) s n (n + 1) =
     like (Inside (x + a) y k h) (Inside (x + a) y k h) (λ i j. record { node = n; owner = owner.Kerf; w = k; h = h; x = i - (x + a); y = j - y }) s _ n (n + 1) n (n + 1)
     (strip k (x + a) y k h n (λ z. (z, hp)) (λ z. inl z)) (omega arith) (omega arith)
-    (λ i j t. (t, ap (λ v. (let r : Spot = record { node = n; owner = owner.Kerf; w = k; h = h; x = v; y = j - y } in r)) (minus i x a))) (λ i j t. t) in
+    (λ i j t. (t, ap (λ v. (let r : Location = record { node = n; owner = owner.Kerf; w = k; h = h; x = v; y = j - y } in r)) (minus i x a))) (λ i j t. t) in
     let cf : Covers (rows_of first x y a h k outcome (n + 1) (c + 1)) (Inside x y a h) f (n + 1) (n + 1 + node_count first) =
     covers first x y a h k outcome (n + 1) (c + 1) (omega arith) (omega arith) shaped.2 in
     let cs : Covers (rows_of second (x + a + k) y (w - a - k) h k outcome (n + 1 + node_count first) (c + 1 + cut_count first)) (Inside (x + a + k) y (w - a - k) h) g (n + 1 + node_count first) (n + 1 + node_count first + node_count second) =
-    like (Inside (x + a + k) y (w - a - k) h) (Inside (x + a + k) y (w - a - k) h) (λ i j. spot_of second (w - a - k) h k outcome (n + 1 + node_count first) (c + 1 + cut_count first) (i - (x + a + k)) (j - y)) g _ (n + 1 + node_count first) (n + 1 + node_count first + node_count second) (n + 1 + node_count first) (n + 1 + node_count first + node_count second)
+    like (Inside (x + a + k) y (w - a - k) h) (Inside (x + a + k) y (w - a - k) h) (λ i j. location_of second (w - a - k) h k outcome (n + 1 + node_count first) (c + 1 + cut_count first) (i - (x + a + k)) (j - y)) g _ (n + 1 + node_count first) (n + 1 + node_count first + node_count second) (n + 1 + node_count first) (n + 1 + node_count first + node_count second)
     (covers second (x + a + k) y (w - a - k) h k outcome (n + 1 + node_count first) (c + 1 + cut_count first) (omega arith) (omega arith) shaped.3) (omega arith) (omega arith)
-    (λ i j t. (t, ap (λ v. spot_of second (w - a - k) h k outcome (n + 1 + node_count first) (c + 1 + cut_count first) v (j - y)) (minus_two i x a k))) (λ i j t. t) in
+    (λ i j t. (t, ap (λ v. location_of second (w - a - k) h k outcome (n + 1 + node_count first) (c + 1 + cut_count first) v (j - y)) (minus_two i x a k))) (λ i j t. t) in
     let all : Covers (strip_row k n (x + a) y k h ++ rows_of first x y a h k outcome (n + 1) (c + 1) ++ rows_of second (x + a + k) y (w - a - k) h k outcome (n + 1 + node_count first) (c + 1 + cut_count first)) (Inside x y w h) (λ i j. cond (ltb (i - x) a) (f i j) (cond (ltb (i - x) (a + k)) (s i j) (g i j))) n (n + (1 + node_count first + node_count second)) =
     like (Inside x y w h) (Inside x y w h) (λ i j. cond (ltb (i - x) a) (f i j) (cond (ltb (i - x) (a + k)) (s i j) (g i j))) (λ i j. cond (ltb (i - x) a) (f i j) (cond (ltb (i - x) (a + k)) (s i j) (g i j))) _ n (n + 1 + node_count first + node_count second) n (n + (1 + node_count first + node_count second))
     (cut_x x y w h k a n (n + 1) (n + 1 + node_count first) (n + 1 + node_count first + node_count second) f s g _ _ _ fits (omega arith) (omega arith) (omega arith) ck cf cs) (omega arith) (omega arith) (λ i j t. (t, refl)) (λ i j t. t) in
@@ -454,29 +454,29 @@ covers (Cut X a first second) x y w h k outcome n c wp hp shaped =
     by_cases X (outcome c) _ (λ i j. cond (ltb (i - x) a) (f i j) (cond (ltb (i - x) (a + k)) (s i j) (g i j))) x y w h n (n + (1 + node_count first + node_count second)) wp hp (omega (arith, least)) all
 covers (Cut Y a first second) x y w h k outcome n c wp hp shaped =
     let ap_ : 1 ≤ a = shaped.0 in let fits : a + k < h = shaped.1 in
-    let f : ℕ → ℕ → Spot = λ i j. spot_of first w a k outcome (n + 1) (c + 1) (i - x) (j - y) in
-    let s : ℕ → ℕ → Spot = λ i j. record { node = n; owner = owner.Kerf; w = w; h = k; x = i - x; y = j - y - a } in
-    let g : ℕ → ℕ → Spot = λ i j. spot_of second w (h - a - k) k outcome (n + 1 + node_count first) (c + 1 + cut_count first) (i - x) (j - y - a - k) in
+    let f : ℕ → ℕ → Location = λ i j. location_of first w a k outcome (n + 1) (c + 1) (i - x) (j - y) in
+    let s : ℕ → ℕ → Location = λ i j. record { node = n; owner = owner.Kerf; w = w; h = k; x = i - x; y = j - y - a } in
+    let g : ℕ → ℕ → Location = λ i j. location_of second w (h - a - k) k outcome (n + 1 + node_count first) (c + 1 + cut_count first) (i - x) (j - y - a - k) in
     let ck : Covers (strip_row k n x (y + a) w k) (Inside x (y + a) w k) s n (n + 1) =
     like (Inside x (y + a) w k) (Inside x (y + a) w k) (λ i j. record { node = n; owner = owner.Kerf; w = w; h = k; x = i - x; y = j - (y + a) }) s _ n (n + 1) n (n + 1)
     (strip k x (y + a) w k n (λ z. (wp, z)) (λ z. inr z)) (omega arith) (omega arith)
-    (λ i j t. (t, ap (λ v. (let r : Spot = record { node = n; owner = owner.Kerf; w = w; h = k; x = i - x; y = v } in r)) (minus j y a))) (λ i j t. t) in
+    (λ i j t. (t, ap (λ v. (let r : Location = record { node = n; owner = owner.Kerf; w = w; h = k; x = i - x; y = v } in r)) (minus j y a))) (λ i j t. t) in
     let cf : Covers (rows_of first x y w a k outcome (n + 1) (c + 1)) (Inside x y w a) f (n + 1) (n + 1 + node_count first) =
     covers first x y w a k outcome (n + 1) (c + 1) (omega arith) (omega arith) shaped.2 in
     let cs : Covers (rows_of second x (y + a + k) w (h - a - k) k outcome (n + 1 + node_count first) (c + 1 + cut_count first)) (Inside x (y + a + k) w (h - a - k)) g (n + 1 + node_count first) (n + 1 + node_count first + node_count second) =
-    like (Inside x (y + a + k) w (h - a - k)) (Inside x (y + a + k) w (h - a - k)) (λ i j. spot_of second w (h - a - k) k outcome (n + 1 + node_count first) (c + 1 + cut_count first) (i - x) (j - (y + a + k))) g _ (n + 1 + node_count first) (n + 1 + node_count first + node_count second) (n + 1 + node_count first) (n + 1 + node_count first + node_count second)
+    like (Inside x (y + a + k) w (h - a - k)) (Inside x (y + a + k) w (h - a - k)) (λ i j. location_of second w (h - a - k) k outcome (n + 1 + node_count first) (c + 1 + cut_count first) (i - x) (j - (y + a + k))) g _ (n + 1 + node_count first) (n + 1 + node_count first + node_count second) (n + 1 + node_count first) (n + 1 + node_count first + node_count second)
     (covers second x (y + a + k) w (h - a - k) k outcome (n + 1 + node_count first) (c + 1 + cut_count first) (omega arith) (omega arith) shaped.3) (omega arith) (omega arith)
-    (λ i j t. (t, ap (λ v. spot_of second w (h - a - k) k outcome (n + 1 + node_count first) (c + 1 + cut_count first) (i - x) v) (minus_two j y a k))) (λ i j t. t) in
+    (λ i j t. (t, ap (λ v. location_of second w (h - a - k) k outcome (n + 1 + node_count first) (c + 1 + cut_count first) (i - x) v) (minus_two j y a k))) (λ i j t. t) in
     let all : Covers (strip_row k n x (y + a) w k ++ rows_of first x y w a k outcome (n + 1) (c + 1) ++ rows_of second x (y + a + k) w (h - a - k) k outcome (n + 1 + node_count first) (c + 1 + cut_count first)) (Inside x y w h) (λ i j. cond (ltb (j - y) a) (f i j) (cond (ltb (j - y) (a + k)) (s i j) (g i j))) n (n + (1 + node_count first + node_count second)) =
     like (Inside x y w h) (Inside x y w h) (λ i j. cond (ltb (j - y) a) (f i j) (cond (ltb (j - y) (a + k)) (s i j) (g i j))) (λ i j. cond (ltb (j - y) a) (f i j) (cond (ltb (j - y) (a + k)) (s i j) (g i j))) _ n (n + 1 + node_count first + node_count second) n (n + (1 + node_count first + node_count second))
     (cut_y x y w h k a n (n + 1) (n + 1 + node_count first) (n + 1 + node_count first + node_count second) f s g _ _ _ fits (omega arith) (omega arith) (omega arith) ck cf cs) (omega arith) (omega arith) (λ i j t. (t, refl)) (λ i j t. t) in
     let least = some_node first in
     by_cases Y (outcome c) _ (λ i j. cond (ltb (j - y) a) (f i j) (cond (ltb (j - y) (a + k)) (s i j) (g i j))) x y w h n (n + (1 + node_count first + node_count second)) wp hp (omega (arith, least)) all
 
-at_origin : (t : Tree) (w h k : ℕ) (outcome : ℕ → Outcome) (i j : ℕ) → spot_of t w h k outcome 0 0 (i - 0) (j - 0) ≡ spot_of t w h k outcome 0 0 i j
+at_origin : (t : Tree) (w h k : ℕ) (outcome : ℕ → Outcome) (i j : ℕ) → location_of t w h k outcome 0 0 (i - 0) (j - 0) ≡ location_of t w h k outcome 0 0 i j
 at_origin t w h k outcome i j =
-    ap (λ v. spot_of t w h k outcome 0 0 v (j - 0)) (let e : i - 0 ≡ i = omega arith in e)
-    ∙ ap (λ v. spot_of t w h k outcome 0 0 i v) (let e : j - 0 ≡ j = omega arith in e)
+    ap (λ v. location_of t w h k outcome 0 0 v (j - 0)) (let e : i - 0 ≡ i = omega arith in e)
+    ∙ ap (λ v. location_of t w h k outcome 0 0 i v) (let e : j - 0 ≡ j = omega arith in e)
 
 -- two rows of one node are one row
 same_row : (rows : List Row) (k l : ℕ) (d e : Row) → AllPairs (λ r s. r.node < s.node) rows → k < length rows → l < length rows → (get_or rows k d).node ≡ (get_or rows l e).node → k ≡ l
@@ -495,21 +495,21 @@ pub laid : (t : Tree) (w h k : ℕ) (outcome : ℕ → Outcome) → 0 < w → 0 
 laid t w h k outcome wp hp shaped =
     let rows : List Row = rows_of t 0 0 w h k outcome 0 0 in
     let c : Shares t 0 0 w h k outcome 0 0 = covers t 0 0 w h k outcome 0 0 wp hp shaped in
-    let place : (n : ℕ) (d : Row) → n < length rows → (x y : ℕ) → CoversCell (get_or rows n d) x y → IsSpot (get_or rows n d) (spot_of t w h k outcome 0 0 x y) x y =
-    λ n d l x y holds. subst (λ (s : Spot). IsSpot (get_or rows n d) s x y) (at_origin t w h k outcome x y) (c.own n d l x y holds).1 in
+    let place : (n : ℕ) (d : Row) → n < length rows → (x y : ℕ) → CoversCell (get_or rows n d) x y → IsLocation (get_or rows n d) (location_of t w h k outcome 0 0 x y) x y =
+    λ n d l x y holds. subst (λ (s : Location). IsLocation (get_or rows n d) s x y) (at_origin t w h k outcome x y) (c.own n d l x y holds).1 in
     record {
       rising = c.rising;
       some_cell = c.some_cell;
       own_cells = λ n d l x y. (
         (λ holds. (let o : Inside 0 0 w h x y = (c.own n d l x y holds).0 in
-            let p : IsSpot (get_or rows n d) (spot_of t w h k outcome 0 0 x y) x y = place n d l x y holds in
+            let p : IsLocation (get_or rows n d) (location_of t w h k outcome 0 0 x y) x y = place n d l x y holds in
             record { inside_width = omega arith; inside_height = omega arith; same_node = p.node; same_owner = p.owner })),
         (λ owns. (
             let w_in : x < w = owns.inside_width in let h_in : y < h = owns.inside_height in
             let a : Any (λ r. CoversCell r x y) rows = c.each x y (record { left = omega arith; right = omega arith; top = omega arith; bottom = omega arith }) in
             let at_a : get_or rows a.0 a.1 ≡ a.1 = a.3 in
             let holds : CoversCell (get_or rows a.0 a.1) x y = subst (λ (r : Row). CoversCell r x y) (sym at_a) a.4 in
-            let p : IsSpot (get_or rows a.0 a.1) (spot_of t w h k outcome 0 0 x y) x y = place a.0 a.1 a.2 x y holds in
+            let p : IsLocation (get_or rows a.0 a.1) (location_of t w h k outcome 0 0 x y) x y = place a.0 a.1 a.2 x y holds in
             let index : a.0 ≡ n = same_row rows a.0 n a.1 d c.rising a.2 l (sym p.node ∙ owns.same_node) in
             subst (λ (r : Row). CoversCell r x y) (get_or_default rows a.0 a.1 d a.2 ∙ ap (λ v. get_or rows v d) index) holds)),
       );

@@ -3,7 +3,7 @@ use Rattle.std.proofs.Common.{◌≡◌, true, false, [], ◌∷◌, refl, arith
 use Rattle.cut_measure.specs.declared.sizes.Axis.TheVariants.{X, Y}
 use Rattle.cut_tree.specs.declared.lay.Owner.TheVariants as owner
 use Rattle.cut_tree.specs.Tree.{Tree, Piece, Rest, Trim, Cut, IsShaped}
-use Rattle.cut_tree.specs.Cells.{spot_of, all_made}
+use Rattle.cut_tree.specs.Cells.{location_of, all_made}
 use Rattle.cut_tree.specs.Stops.{outcome_after}
 use Rattle.cut_tree.specs.declared.halts.Halt.TheVariants.{First}
 use Rattle.cut_tree.specs.Counting.{Test, cells_of_unit}
@@ -34,29 +34,29 @@ is_kerf n owner.Lost w h = false
 
 -- pieces 28, kerf 12
 pieces_all : cells_of_unit is_piece sheet 10 8 1 all_made ≡ 28
-unfolding sheet is_piece spot_of
+unfolding sheet is_piece location_of
 pieces_all = refl
 
 kerf_all : cells_of_unit is_kerf sheet 10 8 1 all_made ≡ 12
-unfolding sheet is_kerf spot_of
+unfolding sheet is_kerf location_of
 kerf_all = refl
 
 -- after one cut: kerf 8, no pieces
 kerf_one : cells_of_unit is_kerf sheet 10 8 1 (outcome_after (First 1 false)) ≡ 8
-unfolding sheet is_kerf spot_of
+unfolding sheet is_kerf location_of
 kerf_one = refl
 
 pieces_one : cells_of_unit is_piece sheet 10 8 1 (outcome_after (First 1 true)) ≡ 0
-unfolding sheet is_piece spot_of
+unfolding sheet is_piece location_of
 pieces_one = refl
 
 -- the part below the first cut is lost where the second one went wrong
-lost_cell : spot_of sheet 10 8 1 (outcome_after (First 1 true)) 0 0 3 7 ≡ record { node = 1; owner = owner.Lost; w = 4; h = 8; x = 3; y = 7 }
-unfolding sheet spot_of
+lost_cell : location_of sheet 10 8 1 (outcome_after (First 1 true)) 0 0 3 7 ≡ record { node = 1; owner = owner.Lost; w = 4; h = 8; x = 3; y = 7 }
+unfolding sheet location_of
 lost_cell = refl
 
-rest_cell : spot_of sheet 10 8 1 (outcome_after (First 1 true)) 0 0 9 2 ≡ record { node = 4; owner = owner.Rest; w = 5; h = 8; x = 4; y = 2 }
-unfolding sheet spot_of
+rest_cell : location_of sheet 10 8 1 (outcome_after (First 1 true)) 0 0 9 2 ≡ record { node = 4; owner = owner.Rest; w = 5; h = 8; x = 4; y = 2 }
+unfolding sheet location_of
 rest_cell = refl
 
 -- a bar of 98 under a kerf of 3, cut by x30 p1 x30 p1 x30 p1: the last cut leaves the saw 2
@@ -68,7 +68,7 @@ unfolding bar
 bar_shaped = (omega arith, omega arith, tt, (omega arith, omega arith, tt, (omega arith, omega arith, omega arith, tt)))
 
 bar_kerf : cells_of_unit is_kerf bar 98 1 3 all_made ≡ 8
-unfolding bar is_kerf spot_of
+unfolding bar is_kerf location_of
 bar_kerf = refl
 
 -- where the sheet's nodes lie: the second piece, and the rest

@@ -3,8 +3,8 @@ use Rattle.std.proofs.Common.{◌≡◌, ℕ, zero, suc, ◌+◌, ◌<◌, ◌�
 use Rattle.std.specs.Prelude.{All, Any, AllPairs}
 use Rattle.cut_tree.specs.declared.lay.Row.{Row}
 use Rattle.cut_tree.specs.Tree.{Tree, IsShaped, count_of}
-use Rattle.cut_tree.specs.Cells.{Outcome, Spot, spot_of, all_made}
-use Rattle.cut_tree.specs.Laying.{CoversCell, IsSpot, Owns, IsLaid}
+use Rattle.cut_tree.specs.Cells.{Outcome, Location, location_of, all_made}
+use Rattle.cut_tree.specs.Laying.{CoversCell, IsLocation, Owns, IsLaid}
 use Rattle.cut_tree.specs.Nodes.{rows_of}
 use Rattle.cut_tree.proofs.CoveredCells.{laid}
 use Rattle.cut_tree.proofs.PieceRows.{pieces, all_pieces, few_pieces}
@@ -66,8 +66,8 @@ one_list (r ∷ rows) (s ∷ more) p q to from =
 same_place : (a b at : ℕ) (x y : ℕ) → a + x ≡ at → b + y ≡ at → x ≡ y → a ≡ b
 same_place a b at x y p q e = omega arith
 
--- where one cell's spot is, there is one row
-one_row_at : (r s : Row) (v : Spot) (x y : ℕ) → IsSpot r v x y → IsSpot s v x y → r ≡ s
+-- where one cell's location is, there is one row
+one_row_at : (r s : Row) (v : Location) (x y : ℕ) → IsLocation r v x y → IsLocation s v x y → r ≡ s
 one_row_at r s v x y p q =
     let node : r.node ≡ s.node = sym p.node ∙ q.node in
     let owner : r.owner ≡ s.owner = sym p.owner ∙ q.owner in
@@ -96,7 +96,7 @@ module _ (t : Tree) (w h k : ℕ) (outcome : ℕ → Outcome) where
       let there : Row = get_or more a.0 a.1 in
       let holds : CoversCell there here.x here.y = held there a.1 here.x here.y a.3 a.4 in
       in_same there here more
-      (one_row_at there here (spot_of t w h k outcome 0 0 here.x here.y) here.x here.y (q.own_place a.0 a.1 a.2 here.x here.y holds) (p.own_place n d l here.x here.y corner))
+      (one_row_at there here (location_of t w h k outcome 0 0 here.x here.y) here.x here.y (q.own_place a.0 a.1 a.2 here.x here.y holds) (p.own_place n d l here.x here.y corner))
       (element more a.0 a.1 a.2)
 
   in_both : (rows more : List Row) → IsLaid t w h k outcome rows → IsLaid t w h k outcome more → (r : Row) → In r rows → In r more

@@ -3,7 +3,7 @@ use Rattle.std.specs.Prelude.{ℕ, ◌≡◌, ◌+◌, ◌≤◌, ◌<◌, ◌�
 use Rattle.cut_tree.specs.declared.lay.Owner.{Owner}
 use Rattle.cut_tree.specs.declared.lay.Row.{Row}
 use Rattle.cut_tree.specs.Tree.{Tree}
-use Rattle.cut_tree.specs.Cells.{Outcome, Spot, spot_of}
+use Rattle.cut_tree.specs.Cells.{Outcome, Location, location_of}
 
 -- the row's rectangle holds the cell
 pub record CoversCell (r : Row) (x y : ℕ) : Type 0 where
@@ -16,11 +16,11 @@ pub record CoversCell (r : Row) (x y : ℕ) : Type 0 where
 pub record Owns (tree : Tree) (w h kerf : ℕ) (outcome : ℕ → Outcome) (node : ℕ) (owner : Owner) (x y : ℕ) : Type 0 where
   pub inside_width : x < w
   pub inside_height : y < h
-  pub same_node : (spot_of tree w h kerf outcome 0 0 x y).node ≡ node
-  pub same_owner : (spot_of tree w h kerf outcome 0 0 x y).owner ≡ owner
+  pub same_node : (location_of tree w h kerf outcome 0 0 x y).node ≡ node
+  pub same_owner : (location_of tree w h kerf outcome 0 0 x y).owner ≡ owner
 
--- the row is where the spot says that the cell (at_x, at_y) lies: its node, owner and sides, and the cell's place inside it
-pub record IsSpot (r : Row) (s : Spot) (at_x at_y : ℕ) : Type 0 where
+-- the row is where the location says that the cell (at_x, at_y) lies: its node, owner and sides, and the cell's place inside it
+pub record IsLocation (r : Row) (s : Location) (at_x at_y : ℕ) : Type 0 where
   pub node : s.node ≡ r.node
   pub owner : s.owner ≡ r.owner
   pub w : s.w ≡ r.w
@@ -34,5 +34,5 @@ pub record IsLaid (tree : Tree) (w h kerf : ℕ) (outcome : ℕ → Outcome) (ro
   pub rising : AllPairs (λ r s. r.node < s.node) rows
   pub some_cell : All (λ r. (0 < r.w) × (0 < r.h)) rows
   pub own_cells : All (λ r. (x y : ℕ) → CoversCell r x y ↔ Owns tree w h kerf outcome r.node r.owner x y) rows
-  pub own_place : All (λ r. (x y : ℕ) → CoversCell r x y → IsSpot r (spot_of tree w h kerf outcome 0 0 x y) x y) rows
+  pub own_place : All (λ r. (x y : ℕ) → CoversCell r x y → IsLocation r (location_of tree w h kerf outcome 0 0 x y) x y) rows
   pub each_cell : (x y : ℕ) → x < w → y < h → Any (λ r. CoversCell r x y) rows

@@ -8,9 +8,9 @@ use Rattle.cut_tree.specs.declared.lay.Owner as of_row
 use Rattle.cut_tree.specs.declared.lay.Owner.TheVariants as owner
 use Rattle.cut_tree.specs.declared.lay.Row.{Row}
 use Rattle.cut_tree.specs.Tree.{Tree}
-use Rattle.cut_tree.specs.Cells.{Outcome, Spot, spot_of}
+use Rattle.cut_tree.specs.Cells.{Outcome, Location, location_of}
 use Rattle.cut_tree.specs.Laying as lay
-use Rattle.cut_tree.specs.Laying.{Owns, IsSpot, IsLaid}
+use Rattle.cut_tree.specs.Laying.{Owns, IsLocation, IsLaid}
 use Rattle.shop_records.specs.declared.records.Part.{Part}
 use Rattle.shop_records.specs.declared.records.State.{State}
 use Rattle.shop_records.specs.declared.records.State.TheVariants.{Standing, Cut, Scrap}
@@ -224,14 +224,14 @@ module _ (m : FinMap name_cmp Part) (named : Named m) (p : Name) (row : Part) (k
   no_cell : (u : Name) (x y : ℕ) (q : Part) → q ≡ in_state (Cut job) row → HasCellOf u x y q → ⊥
   no_cell u x y q e h = true≢false (ap (λ (v : Part). is_gone v.state) (sym e) ∙ h.whole)
 
-  abbrev spot_at : ℕ → ℕ → Spot
-  spot_at i j = spot_of tree row.size.w row.size.h params.kerf outcome 0 0 i j
+  abbrev location_at : ℕ → ℕ → Location
+  location_at i j = location_of tree row.size.w row.size.h params.kerf outcome 0 0 i j
 
-  placed : (r : Row) → IsIn r rows → (i j : ℕ) → lay.CoversCell r i j → IsSpot r (spot_at i j) i j
-  placed r i = all_in (λ (r : Row). (i j : ℕ) → lay.CoversCell r i j → IsSpot r (spot_at i j) i j) rows laid.own_place r i
+  placed : (r : Row) → IsIn r rows → (i j : ℕ) → lay.CoversCell r i j → IsLocation r (location_at i j) i j
+  placed r i = all_in (λ (r : Row). (i j : ℕ) → lay.CoversCell r i j → IsLocation r (location_at i j) i j) rows laid.own_place r i
 
-  -- the part of a row is the owner's at the spot
-  row_owner : (r : Row) (s : Spot) (i j x y : ℕ) → IsSpot r s i j → row.x + i ≡ x → row.y + j ≡ y → IsOwner (owner_at params job s) x y (row_part row params job r)
+  -- the part of a row is the owner's at the location
+  row_owner : (r : Row) (s : Location) (i j x y : ℕ) → IsLocation r s i j → row.x + i ≡ x → row.y + j ≡ y → IsOwner (owner_at params job s) x y (row_part row params job r)
   row_owner r s i j x y place across down =
       let mine : Size = record { w = r.w; h = r.h } in
       let its : Size = record { w = s.w; h = s.h } in
@@ -262,14 +262,14 @@ module _ (m : FinMap name_cmp Part) (named : Named m) (p : Name) (row : Part) (k
 
   -- a cell of the part that is cut belongs to the row that has it
   in_new : (w : Owner) (after : Option Owner) (u : Name) (x y : ℕ) (r : Row) → IsIn r rows → lay.CoversCell r w.x w.y → row.x + w.x ≡ x → row.y + w.y ≡ y → HasCellOf u x y row
-      → after ≡ Some (owner_at params job (spot_at w.x w.y)) → ((n : Name) (q : Part) → get m n ≡ Some q → HasCellOf u x y q → n ≡ p) → HasOwner after_cuts after u x y
+      → after ≡ Some (owner_at params job (location_at w.x w.y)) → ((n : Name) (q : Part) → get m n ≡ Some q → HasCellOf u x y q → n ≡ p) → HasOwner after_cuts after u x y
   in_new w after u x y r i held across down h owned only = record {
     part = row_part row params job r;
-    owner = owner_at params job (spot_at w.x w.y);
+    owner = owner_at params job (location_at w.x w.y);
     kept = found_new r i;
     holds = here u x y r w.x w.y held across down h;
     owned = owned;
-    same = row_owner r (spot_at w.x w.y) w.x w.y x y (placed r i w.x w.y held) across down;
+    same = row_owner r (location_at w.x w.y) w.x w.y x y (placed r i w.x w.y held) across down;
     alone = λ n q k g. elim (found_cases n q k) [
       | inl f ↦ f.2 ∙ ap (row_part row params job) (same_place r f.0 i f.1 w.x w.y held (moved f.0 w.x w.y x y across down (was_in u x y f.0 f.1 (subst (HasCellOf u x y) f.2 g)).0))
       | inr f ↦ elim f [
@@ -286,7 +286,7 @@ module _ (m : FinMap name_cmp Part) (named : Named m) (p : Name) (row : Part) (k
 
   pub cut_up : (found after : Option Owner) (u : Name) (x y : ℕ)
       → ((w : Owner) → row.root ≡ u → found ≡ Some w → w.name ≡ p → w.state ≡ Standing
-      → after ≡ Some (owner_at params job (spot_of tree w.size.w w.size.h params.kerf outcome 0 0 w.x w.y)))
+      → after ≡ Some (owner_at params job (location_of tree w.size.w w.size.h params.kerf outcome 0 0 w.x w.y)))
       → ((w : Owner) → found ≡ Some w → (w.name ≡ p → ⊥) → after ≡ Some w)
       → HasOwner m found u x y → HasOwner after_cuts after u x y
   cut_up found after u x y there elsewhere o =
@@ -298,7 +298,7 @@ module _ (m : FinMap name_cmp Part) (named : Named m) (p : Name) (row : Part) (k
             let row' = held_row u x y o.owner.x o.owner.y ws.across ws.down h in
             in_new o.owner after u x y row'.0 row'.1 row'.2 ws.across ws.down h
             (there o.owner h.root o.owned (sym ws.name ∙ named p row kept) (sym ws.state ∙ stands)
-            ∙ ap (λ (e : Size). Some (owner_at params job (spot_of tree e.w e.h params.kerf outcome 0 0 o.owner.x o.owner.y))) (sym ws.size))
+            ∙ ap (λ (e : Size). Some (owner_at params job (location_of tree e.w e.h params.kerf outcome 0 0 o.owner.x o.owner.y))) (sym ws.size))
             (λ n q k g. sym (named n q k) ∙ ap (λ (v : Part). v.name) (o.alone n q k g) ∙ e.0))
         | inr e ↦ record {
           part = o.part;

@@ -10,7 +10,7 @@ use Rattle.cut_tree.specs.declared.halts.Halt.{Halt}
 use Rattle.cut_tree.specs.declared.halts.Stop.{Stop}
 use Rattle.cut_tree.specs.declared.halts.Stop.TheVariants as stop
 use Rattle.cut_tree.specs.Tree.{count_of}
-use Rattle.cut_tree.specs.Cells.{Outcome, spot_of}
+use Rattle.cut_tree.specs.Cells.{Outcome, location_of}
 use Rattle.cut_tree.specs.Stops.{outcome_of, halted}
 use Rattle.cut_tree.specs.Laying.{IsLaid}
 use Rattle.shop_records.specs.declared.records.Material.{Material}
@@ -81,12 +81,12 @@ module _ (texts : Texts) (message : Message) (earlier : List Effect) (old : Cont
     cut_elsewhere : (made : Reservation) (params : Option CutParams) (w : Owner) → stands_as made.part w ≡ false → cut_owner (Some made) params outcome j.act (Some w) ≡ Some w
     cut_elsewhere made None w e = refl
     cut_elsewhere made (Some params) w e =
-        ap (λ b. if b then Some (owner_at params j.act (spot_of made.tree w.size.w w.size.h params.kerf outcome 0 0 w.x w.y)) else Some w) e
+        ap (λ b. if b then Some (owner_at params j.act (location_of made.tree w.size.w w.size.h params.kerf outcome 0 0 w.x w.y)) else Some w) e
 
     cut_here : (made : Reservation) (params : CutParams) (w : Owner) → stands_as made.part w ≡ true
-        → cut_owner (Some made) (Some params) outcome j.act (Some w) ≡ Some (owner_at params j.act (spot_of made.tree w.size.w w.size.h params.kerf outcome 0 0 w.x w.y))
+        → cut_owner (Some made) (Some params) outcome j.act (Some w) ≡ Some (owner_at params j.act (location_of made.tree w.size.w w.size.h params.kerf outcome 0 0 w.x w.y))
     cut_here made params w e =
-        ap (λ b. if b then Some (owner_at params j.act (spot_of made.tree w.size.w w.size.h params.kerf outcome 0 0 w.x w.y)) else Some w) e
+        ap (λ b. if b then Some (owner_at params j.act (location_of made.tree w.size.w w.size.h params.kerf outcome 0 0 w.x w.y)) else Some w) e
 
     module _ (rows : List Demand) (laid : List Row) (is_laid : IsLaid j.plan.tree row.size.w row.size.h material.limits.kerf outcome laid) where
       abbrev done : Effect

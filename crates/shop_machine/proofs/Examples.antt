@@ -6,7 +6,7 @@ use Rattle.cut_measure.specs.declared.sizes.Kind.TheVariants.{Bar, Sheet}
 use Rattle.cut_measure.specs.declared.sizes.Axis.TheVariants.{X, Y}
 use Rattle.cut_measure.specs.Names.{Name}
 use Rattle.cut_tree.specs.Tree.{Tree, Piece, Rest, Cut}
-use Rattle.cut_tree.specs.Cells.{spot_of}
+use Rattle.cut_tree.specs.Cells.{location_of}
 use Rattle.cut_tree.specs.declared.halts.Halt.TheVariants.{First}
 use Rattle.shop_records.specs.declared.records.State.{State}
 use Rattle.shop_records.specs.declared.records.State.TheVariants as state
@@ -230,30 +230,30 @@ abbrev is_there : State → ℕ → ℕ → ℕ → ℕ → ℕ → ℕ → Opti
 is_there state act node w h x y = Some (record { state = state; name = record { act = act; node = node }; size = record { w = w; h = h }; x = x; y = y })
 
 first_piece : owner_of (effects_of two_pieces) sheet 3 2 ≡ is_there (state.Piece 1) 2 2 4 3 3 2
-unfolding two_pieces sheet_tree spot_of
+unfolding two_pieces sheet_tree location_of
 first_piece = refl
 
 upright_kerf : owner_of (effects_of two_pieces) sheet 4 7 ≡ is_there state.Kerf 2 0 1 8 0 7
-unfolding two_pieces sheet_tree spot_of
+unfolding two_pieces sheet_tree location_of
 upright_kerf = refl
 
 -- its short side is over the limit, and its long side too
 kept_rest : owner_of (effects_of two_pieces) sheet 6 1 ≡ is_there state.Standing 2 4 5 8 1 1
-unfolding two_pieces sheet_tree spot_of
+unfolding two_pieces sheet_tree location_of
 kept_rest = refl
 
 piece_of_the_remnant : owner_of (effects_of remnant_cut) sheet 6 1 ≡ is_there (state.Piece 3) 3 1 5 3 1 1
-unfolding remnant_cut two_pieces sheet_tree rest_tree spot_of
+unfolding remnant_cut two_pieces sheet_tree rest_tree location_of
 piece_of_the_remnant = refl
 
 -- sides that equal the limits are kept
 rest_of_the_remnant : owner_of (effects_of remnant_cut) sheet 5 4 ≡ is_there state.Standing 3 2 5 4 0 0
-unfolding remnant_cut two_pieces sheet_tree rest_tree spot_of
+unfolding remnant_cut two_pieces sheet_tree rest_tree location_of
 rest_of_the_remnant = refl
 
 -- what the first job made stays
 still_a_piece : owner_of (effects_of remnant_cut) sheet 3 2 ≡ is_there (state.Piece 1) 2 2 4 3 3 2
-unfolding remnant_cut two_pieces sheet_tree rest_tree spot_of
+unfolding remnant_cut two_pieces sheet_tree rest_tree location_of
 still_a_piece = refl
 
 -- The cut of the remnant is taken back, and then the sheet's: each time the cells are owned as before.
@@ -264,20 +264,20 @@ both_undone : List Entry
 both_undone = record { message = record { terminal = 1; number = 10; command = Undo 2 }; read = unread } ∷ remnant_undone
 
 remnant_stands : owner_of (effects_of remnant_undone) sheet 6 1 ≡ is_there state.Standing 2 4 5 8 1 1
-unfolding remnant_undone remnant_cut two_pieces sheet_tree rest_tree spot_of
+unfolding remnant_undone remnant_cut two_pieces sheet_tree rest_tree location_of
 remnant_stands = refl
 
 -- what the other job made stays
 piece_stays : owner_of (effects_of remnant_undone) sheet 3 2 ≡ is_there (state.Piece 1) 2 2 4 3 3 2
-unfolding remnant_undone remnant_cut two_pieces sheet_tree rest_tree spot_of
+unfolding remnant_undone remnant_cut two_pieces sheet_tree rest_tree location_of
 piece_stays = refl
 
 sheet_stands : owner_of (effects_of both_undone) sheet 6 1 ≡ is_there state.Standing 1 0 10 8 6 1
-unfolding both_undone remnant_undone remnant_cut two_pieces sheet_tree rest_tree spot_of
+unfolding both_undone remnant_undone remnant_cut two_pieces sheet_tree rest_tree location_of
 sheet_stands = refl
 
 no_kerf_left : owner_of (effects_of both_undone) sheet 4 7 ≡ is_there state.Standing 1 0 10 8 4 7
-unfolding both_undone remnant_undone remnant_cut two_pieces sheet_tree rest_tree spot_of
+unfolding both_undone remnant_undone remnant_cut two_pieces sheet_tree rest_tree location_of
 no_kerf_left = refl
 
 -- The first cut of the sheet goes wrong, and five columns are left: they stand under the next node, and what is before them
@@ -290,14 +290,14 @@ first_cut_lost rest =
     ∷ record { message = record { terminal = 1; number = 1; command = AddMaterial (codes "GLASS") Sheet 1 5 4 }; read = unread } ∷ []
 
 rest_is_kept : owner_of (effects_of (first_cut_lost (Some 5))) sheet 6 1 ≡ is_there state.Standing 2 1 5 8 1 1
-unfolding first_cut_lost sheet_tree spot_of
+unfolding first_cut_lost sheet_tree location_of
 rest_is_kept = refl
 
 last_lost_column : owner_of (effects_of (first_cut_lost (Some 5))) sheet 4 2 ≡ is_there state.Scrap 2 0 5 8 4 2
-unfolding first_cut_lost sheet_tree spot_of
+unfolding first_cut_lost sheet_tree location_of
 last_lost_column = refl
 
 -- without a rest all is lost
 all_lost : owner_of (effects_of (first_cut_lost None)) sheet 6 1 ≡ is_there state.Scrap 2 0 10 8 6 1
-unfolding first_cut_lost sheet_tree spot_of
+unfolding first_cut_lost sheet_tree location_of
 all_lost = refl

@@ -4,8 +4,8 @@ use Rattle.std.specs.Prelude.{All, Any}
 use Rattle.cut_tree.specs.declared.lay.Owner.{Owner}
 use Rattle.cut_tree.specs.declared.lay.Row.{Row}
 use Rattle.cut_tree.specs.Tree.{Tree, IsShaped}
-use Rattle.cut_tree.specs.Cells.{Outcome, spot_of}
-use Rattle.cut_tree.specs.Laying.{CoversCell, IsSpot, Owns, IsLaid}
+use Rattle.cut_tree.specs.Cells.{Outcome, location_of}
+use Rattle.cut_tree.specs.Laying.{CoversCell, IsLocation, Owns, IsLaid}
 use Rattle.cut_tree.specs.Nodes.{rows_of}
 use Rattle.cut_tree.proofs.CoveredCells.{laid}
 use Rattle.shop_machine.specs.Sharing.{SharesCells}
@@ -67,7 +67,7 @@ module _ (t : Tree) (w h k : ℕ) (outcome : ℕ → Outcome) where
     whole_laid : IsLaid t w h k outcome whole
     whole_laid = laid t w h k outcome (omega (arith, wide)) (omega (arith, high)) shaped
 
-    place : All (λ r. (x y : ℕ) → CoversCell r x y → IsSpot r (spot_of t w h k outcome 0 0 x y) x y) rows
+    place : All (λ r. (x y : ℕ) → CoversCell r x y → IsLocation r (location_of t w h k outcome 0 0 x y) x y) rows
     place n d l = λ x y covers.
         let here : Row = get_or rows n d in
         let own = shares.own_cells n d l in
@@ -75,13 +75,13 @@ module _ (t : Tree) (w h k : ℕ) (outcome : ℕ → Outcome) where
         let a : Any (λ s. CoversCell s x y) whole = whole_laid.each_cell x y owns.inside_width owns.inside_height in
         let there : Row = get_or whole a.0 a.1 in
         let holds : CoversCell there x y = subst (λ (s : Row). CoversCell s x y) (sym a.3) a.4 in
-        let spot = whole_laid.own_place a.0 a.1 a.2 x y holds in
+        let location = whole_laid.own_place a.0 a.1 a.2 x y holds in
         let its = whole_laid.own_cells a.0 a.1 a.2 in
         let same : here ≡ there =
         same_row here there (shares.some_cell n d l) (whole_laid.some_cell a.0 a.1 a.2)
         (λ i j. (own i j).0) (λ i j. (own i j).1) (λ i j. (its i j).0) (λ i j. (its i j).1)
-        (sym owns.same_node ∙ spot.node) (sym owns.same_owner ∙ spot.owner) in
-        subst (λ (r : Row). IsSpot r (spot_of t w h k outcome 0 0 x y) x y) (sym same) spot
+        (sym owns.same_node ∙ location.node) (sym owns.same_owner ∙ location.owner) in
+        subst (λ (r : Row). IsLocation r (location_of t w h k outcome 0 0 x y) x y) (sym same) location
 
     shared_laid : IsLaid t w h k outcome rows
     shared_laid = record { rising = shares.rising; some_cell = shares.some_cell; own_cells = shares.own_cells; own_place = place; each_cell = shares.each_cell }

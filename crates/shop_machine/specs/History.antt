@@ -8,7 +8,7 @@ use Rattle.cut_measure.specs.Codes.{code_cmp}
 use Rattle.cut_measure.specs.Names.{Name, name_cmp}
 use Rattle.cut_measure.specs.Measures.{Size, CutParams, below, cells_of}
 use Rattle.cut_tree.specs.Tree.{Tree}
-use Rattle.cut_tree.specs.Cells.{Outcome, Spot, spot_of}
+use Rattle.cut_tree.specs.Cells.{Outcome, Location, location_of}
 use Rattle.shop_records.specs.declared.records.Part.{Part}
 use Rattle.shop_records.specs.declared.records.Demand.{Demand}
 use Rattle.shop_records.specs.declared.records.Column.{Column}
@@ -215,18 +215,18 @@ pub record Owner : Type 0 where
 abbrev pub stands_as : Name → Owner → Bool
 stands_as part owner = same_name owner.name part && is_free owner.state
 
--- a cell at that spot of a job
-abbrev pub owner_at : CutParams → ℕ → Spot → Owner
-owner_at params number spot =
-    let size : Size = record { w = spot.w; h = spot.h } in
-    record { state = state_after_cut params spot.owner size; name = record { act = number; node = spot.node }; size = size; x = spot.x; y = spot.y }
+-- a cell at that location of a job
+abbrev pub owner_at : CutParams → ℕ → Location → Owner
+owner_at params number location =
+    let size : Size = record { w = location.w; h = location.h } in
+    record { state = state_after_cut params location.owner size; name = record { act = number; node = location.node }; size = size; x = location.x; y = location.y }
 
 -- The owner after the cuts of a job, before which it was this one: where that was the job's part, the cell is followed down
 -- the tree.
 abbrev pub cut_owner : Option Reservation → Option CutParams → (ℕ → Outcome) → ℕ → Option Owner → Option Owner
 cut_owner (Some made) (Some params) outcome number (Some before) =
     if stands_as made.part before
-    then Some (owner_at params number (spot_of made.tree before.size.w before.size.h params.kerf outcome 0 0 before.x before.y))
+    then Some (owner_at params number (location_of made.tree before.size.w before.size.h params.kerf outcome 0 0 before.x before.y))
     else Some before
 cut_owner None params outcome number before = before
 cut_owner (Some made) None outcome number before = before

@@ -34,8 +34,8 @@ job_state_text Released = codes "released"
 job_state_text Undone = codes "undone"
 
 -- where a node's rectangle lies in the part that is cut, and its sides
-abbrev pub spot_text : Kind → Step → List ℕ
-spot_text kind step = codes " at " ++ place_text kind step.x step.y ++ codes " of " ++ size_text kind step.w step.h
+abbrev pub location_text : Kind → Step → List ℕ
+location_text kind step = codes " at " ++ place_text kind step.x step.y ++ codes " of " ++ size_text kind step.w step.h
 
 -- whose a piece is
 abbrev pub demand_text : Demand → List ℕ
@@ -52,13 +52,13 @@ demand_for at (token.Piece demand turned) = at demand
 demand_for at token.Rest = None
 
 abbrev pub cut_text : Kind → Step → Axis → ℕ → List ℕ
-cut_text kind step axis place = codes "cut " ++ axis_letter axis ∷ [] ++ codes " " ++ mm_text place ++ spot_text kind step
+cut_text kind step axis place = codes "cut " ++ axis_letter axis ∷ [] ++ codes " " ++ mm_text place ++ location_text kind step
 
 abbrev pub piece_text : Kind → Step → Bool → Demand → List ℕ
-piece_text kind step turned row = codes "piece" ++ spot_text kind step ++ demand_text row ++ turn_text turned
+piece_text kind step turned row = codes "piece" ++ location_text kind step ++ demand_text row ++ turn_text turned
 
 abbrev pub rest_text : Kind → Step → List ℕ
-rest_text kind step = codes "rest" ++ spot_text kind step
+rest_text kind step = codes "rest" ++ location_text kind step
 
 -- what is done at a node; of a piece whose demand isn't there nothing is said
 abbrev pub node_text : Kind → Step → Token → Option Demand → Option (List ℕ)

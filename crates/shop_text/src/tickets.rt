@@ -11,7 +11,7 @@ ghost use Rattle.shop_book.specs.Kept.{Unchanged, OnContent};
 ghost use Rattle.shop_book.specs.Failures.{CountsFailure};
 ghost use Rattle.shop_text.specs.Printing.{IsTextMade, IsPrinted, CountsRefusal, CountsPrint};
 ghost use Rattle.shop_streams.specs.Streams.{HasFailed};
-ghost use Rattle.shop_text.specs.Tickets.{AddsLine, AreNodesFound, IsTicketMade, cut_text, demand_for, demand_text, job_line, job_state_text, made_line, made_of, node_line, node_lines, node_text, piece_count, piece_text, rest_text, spot_text, steps_in, ticket_end, ticket_of, ticket_with, unit_line};
+ghost use Rattle.shop_text.specs.Tickets.{AddsLine, AreNodesFound, IsTicketMade, cut_text, demand_for, demand_text, job_line, job_state_text, made_line, made_of, node_line, node_lines, node_text, piece_count, piece_text, rest_text, location_text, steps_in, ticket_end, ticket_of, ticket_with, unit_line};
 
 use crate::printing::{PrintFault, print, push_number, push_part_start, push_place, push_size};
 use cut_measure::{Axis, Kind, write_mm};
@@ -112,8 +112,8 @@ fn made_pieces<B: Book>(alloc: Global, book: &mut B, job: &Job) -> Result<Option
     }
 }
 
-fn push_spot(kind: Kind, step: Step, text: &mut String) -> Result<(), AllocError>
-    ensures { OnOk result (string_bytes text.new ≡ string_bytes text.old ++ spot_text kind step) }
+fn push_location(kind: Kind, step: Step, text: &mut String) -> Result<(), AllocError>
+    ensures { OnOk result (string_bytes text.new ≡ string_bytes text.old ++ location_text kind step) }
 {
     text.push_str(" at ")?;
     push_place(kind, step.x, step.y, text)?;
@@ -136,7 +136,7 @@ fn push_cut(
         Axis::Y => "cut y ",
     })?;
     write_mm(place, text)?;
-    push_spot(kind, step, text)
+    push_location(kind, step, text)
 }
 
 fn push_demand(row: &Demand, text: &mut String) -> Result<(), AllocError>
@@ -158,7 +158,7 @@ fn push_piece(
         ++ piece_text kind step turned row.now) }
 {
     text.push_str("piece")?;
-    push_spot(kind, step, text)?;
+    push_location(kind, step, text)?;
     push_demand(row, text)?;
     text.push_str(if turned { " turned" } else { "" })
 }
@@ -167,7 +167,7 @@ fn push_rest(kind: Kind, step: Step, text: &mut String) -> Result<(), AllocError
     ensures { OnOk result (string_bytes text.new ≡ string_bytes text.old ++ rest_text kind step) }
 {
     text.push_str("rest")?;
-    push_spot(kind, step, text)
+    push_location(kind, step, text)
 }
 
 // What is done at a node.
