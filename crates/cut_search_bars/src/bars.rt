@@ -5,7 +5,7 @@ use crate::correct::{Correct, Progress, values_of};
 use crate::dive::Dive;
 use crate::draft::Draft;
 use crate::found::{Found, FoundUnit};
-use crate::order::{Order, Rated};
+use crate::order::{Order, UnitBounds};
 use crate::quick::fill_up;
 use crate::relax::Relax;
 use crate::repair::taken_apart;
@@ -79,7 +79,7 @@ pub struct BarSearch {
     /// The best plan.
     plan: Option<Draft>,
     /// The worths of the best bound that was found.
-    rated: Option<Rated>,
+    unit_bounds: Option<UnitBounds>,
     /// That bound.
     bound: u64,
     /// The cost of the best plan, and the pieces that it leaves out.
@@ -141,7 +141,7 @@ impl BarSearch {
             repairs: 0,
             dice: REPAIR_SEED,
             plan: None,
-            rated: None,
+            unit_bounds: None,
             bound: 0,
             cost: u64::MAX,
             missing: u64::MAX,
@@ -206,7 +206,7 @@ impl BarSearch {
         }
         relax.settle();
         self.bound = relax.least;
-        self.rated = relax.rated.take();
+        self.unit_bounds = relax.unit_bounds.take();
         self.stage = Stage::Prices;
         Ok(Step::Table)
     }
@@ -214,10 +214,10 @@ impl BarSearch {
     /// Reports the prices of the bound.
     fn report_prices(&mut self, alloc: Global) -> Result<Step, AllocError> {
         self.stage = Stage::Round;
-        match &self.rated {
+        match &self.unit_bounds {
             None => Ok(Step::Passed),
-            Some(rated) => {
-                let numbers = Vec::from_slice(alloc, &rated.worths)?;
+            Some(unit_bounds) => {
+                let numbers = Vec::from_slice(alloc, &unit_bounds.worths)?;
                 Ok(Step::Reported(Found::Prices { numbers, points: 0 }))
             }
         }
@@ -262,8 +262,8 @@ impl BarSearch {
             self.stage = Stage::Dive;
             return Ok(Step::Passed);
         };
-        let rated = self.rated.as_ref();
-        match correct.go_on(alloc, &self.order, &mut self.bars, rated, goal)? {
+        let unit_bounds = self.unit_bounds.as_ref();
+        match correct.go_on(alloc, &self.order, &mut self.bars, unit_bounds, goal)? {
             Progress::More => Ok(Step::Table),
             Progress::Filled => self.end_round(alloc, true),
             Progress::Hopeless => self.end_round(alloc, false),
@@ -334,9 +334,9 @@ impl BarSearch {
         let Some(mut correct) = self.correct.take() else {
             return self.begin_repair(alloc);
         };
-        let rated = self.rated.as_ref();
+        let unit_bounds = self.unit_bounds.as_ref();
         let beyond = goal.saturating_add(1);
-        let progress = correct.go_on(alloc, &self.order, &mut self.bars, rated, beyond)?;
+        let progress = correct.go_on(alloc, &self.order, &mut self.bars, unit_bounds, beyond)?;
         if progress == Progress::More {
             self.correct = Some(correct);
             return Ok(Step::Table);

@@ -3,7 +3,7 @@
 //! after round.
 
 use crate::draft::{Draft, have_some, times_within};
-use crate::order::{Order, Rated};
+use crate::order::{Order, UnitBounds};
 use cut_fill_bars::bars::{Bars, Priced};
 use cut_master::fixed::ONE;
 use std::alloc::{AllocError, Global};
@@ -152,12 +152,12 @@ pub fn values_of(alloc: Global, order: &Order, prices: &[u64]) -> Result<Vec<u64
 }
 
 /// What all that is left costs at least.
-fn least_rest(order: &Order, rated: Option<&Rated>, draft: &Draft) -> u64 {
+fn least_rest(order: &Order, unit_bounds: Option<&UnitBounds>, draft: &Draft) -> u64 {
     let by_cells = order.least_by_cells(&draft.left);
-    match rated {
+    match unit_bounds {
         None => by_cells,
-        Some(rated) => order
-            .least_cost(rated, &draft.left, &draft.free)
+        Some(unit_bounds) => order
+            .least_cost(unit_bounds, &draft.left, &draft.free)
             .max(by_cells),
     }
 }
@@ -345,14 +345,14 @@ impl Correct {
         alloc: Global,
         order: &Order,
         bars: &mut Bars,
-        rated: Option<&Rated>,
+        unit_bounds: Option<&UnitBounds>,
         goal: u64,
     ) -> Result<Progress, AllocError> {
         if self.asked == Asked::Nothing {
             if !have_some(&self.draft.left) {
                 return Ok(Progress::Filled);
             }
-            let least = least_rest(order, rated, &self.draft);
+            let least = least_rest(order, unit_bounds, &self.draft);
             if self.draft.cost.saturating_add(least) >= goal {
                 return Ok(Progress::Hopeless);
             }

@@ -36,7 +36,7 @@ pub struct Order {
 
 /// Worths of the wants, and what a unit of each size is worth at most by them.
 #[derive(Drop)]
-pub struct Rated {
+pub struct UnitBounds {
     /// What a piece of each want is worth, 0 to 1000000000.
     pub worths: Vec<u32>,
     /// What a unit of each size is worth at most.
@@ -179,9 +179,15 @@ impl Order {
 
     /// What the excess of the sizes takes from the bound by a size: none where an unlimited size
     /// has one.
-    fn excess(&self, cost: u64, best: u64, rated: &Rated, free: &[Option<u32>]) -> Option<u128> {
+    fn excess(
+        &self,
+        cost: u64,
+        best: u64,
+        unit_bounds: &UnitBounds,
+        free: &[Option<u32>],
+    ) -> Option<u128> {
         let mut sum = 0u128;
-        let sizes = self.costs.iter().zip(&rated.bests).zip(free);
+        let sizes = self.costs.iter().zip(&unit_bounds.bests).zip(free);
         for ((other_cost, other_best), number) in sizes {
             let has = cost as u128 * *other_best as u128;
             let over = has.saturating_sub(best as u128 * *other_cost as u128);
@@ -192,13 +198,13 @@ impl Order {
         Some(sum)
     }
 
-    /// What all that is left costs at least, by rated worths: the greatest bound over the sizes,
+    /// What all that is left costs at least, by worths with their unit bounds: the greatest over the sizes,
     /// rounded up.
-    pub fn least_cost(&self, rated: &Rated, left: &[u32], free: &[Option<u32>]) -> u64 {
-        let all = total(&rated.worths, left);
+    pub fn least_cost(&self, unit_bounds: &UnitBounds, left: &[u32], free: &[Option<u32>]) -> u64 {
+        let all = total(&unit_bounds.worths, left);
         let mut least = 0u128;
-        for (cost, best) in self.costs.iter().zip(&rated.bests) {
-            if let Some(excess) = self.excess(*cost, *best, rated, free) {
+        for (cost, best) in self.costs.iter().zip(&unit_bounds.bests) {
+            if let Some(excess) = self.excess(*cost, *best, unit_bounds, free) {
                 let worth = all.saturating_mul(*cost as u128).saturating_sub(excess);
                 let bound = worth.div_ceil((*best as u128).max(1));
                 if *best > 0 {

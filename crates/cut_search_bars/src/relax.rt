@@ -3,7 +3,7 @@
 //! cost as well.
 
 use crate::draft::times_within;
-use crate::order::{Order, Rated, rounded_up};
+use crate::order::{Order, UnitBounds, rounded_up};
 use cut_fill_bars::bars::{Bars, Priced};
 use cut_master::column::Plan;
 use cut_master::fixed::{ONE, ratio};
@@ -39,7 +39,7 @@ pub struct Relax {
     /// The best bound of the cost.
     pub least: u64,
     /// The worths that gave it.
-    pub rated: Option<Rated>,
+    pub unit_bounds: Option<UnitBounds>,
 }
 
 /// Which sizes are offered: all that are free, but only some of those that are limited where they
@@ -113,7 +113,7 @@ impl Relax {
             asked: Vec::new(alloc),
             prices: Vec::new(alloc),
             least: 0,
-            rated: None,
+            unit_bounds: None,
         }))
     }
 
@@ -179,14 +179,14 @@ impl Relax {
         for one in priced {
             bests.push(one.best)?;
         }
-        let rated = Rated {
+        let unit_bounds = UnitBounds {
             worths: Vec::from_slice(alloc, &self.asked)?,
             bests,
         };
-        let least = order.least_cost(&rated, &self.left, &self.free);
-        if least > self.least || self.rated.is_none() {
+        let least = order.least_cost(&unit_bounds, &self.left, &self.free);
+        if least > self.least || self.unit_bounds.is_none() {
             self.least = least;
-            self.rated = Some(rated);
+            self.unit_bounds = Some(unit_bounds);
         }
         Ok(())
     }

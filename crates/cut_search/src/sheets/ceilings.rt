@@ -8,7 +8,7 @@ use crate::sheets::worker::{MAX_WORK, Worker};
 use cut_master::column::Plan as Column;
 use cut_master::fixed::ONE;
 use cut_master::master::{End, MIN_GAIN, Master};
-use cut_search_bars::order::{Order, Rated, rounded_up};
+use cut_search_bars::order::{Order, UnitBounds, rounded_up};
 use cut_search_bars::relax::{empty_master, offered_sizes};
 use std::alloc::{AllocError, Global};
 use std::rc::Rc;
@@ -44,10 +44,10 @@ pub struct Ceilings {
     /// The best bound of the cost.
     pub least: u64,
     /// The worths that gave it.
-    pub rated: Option<Rated>,
+    pub unit_bounds: Option<UnitBounds>,
     /// Whether the numbers failed.
     pub has_failed: bool,
-    /// Worths that are rated before those of the program.
+    /// Worths whose table comes before those of the program.
     first: Option<Vec<u32>>,
 }
 
@@ -99,7 +99,7 @@ impl Ceilings {
             is_best: false,
             prices: Vec::new(alloc),
             least: 0,
-            rated: None,
+            unit_bounds: None,
             has_failed: false,
             first: None,
         };
@@ -115,7 +115,7 @@ impl Ceilings {
         self.table.work() > 2 * MAX_WORK
     }
 
-    /// Rates these worths first.
+    /// Makes the table of these worths first.
     pub fn begin_with(&mut self, worths: Vec<u32>) {
         self.first = Some(worths);
     }
@@ -204,11 +204,13 @@ impl Ceilings {
 
     /// Keeps the bound of a table, if it is the best.
     fn rate(&mut self, job: &Job, worths: Vec<u32>, bests: Vec<u64>) {
-        let rated = Rated { worths, bests };
-        let least = job.order.least_cost(&rated, &job.order.left, &self.free);
-        if least > self.least || self.rated.is_none() {
+        let unit_bounds = UnitBounds { worths, bests };
+        let least = job
+            .order
+            .least_cost(&unit_bounds, &job.order.left, &self.free);
+        if least > self.least || self.unit_bounds.is_none() {
             self.least = least;
-            self.rated = Some(rated);
+            self.unit_bounds = Some(unit_bounds);
         }
     }
 

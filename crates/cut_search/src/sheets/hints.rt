@@ -91,9 +91,9 @@ impl Hints {
     ) -> Result<(), AllocError> {
         self.bound = self.bound.max(ceilings.least);
         self.take_prices(alloc, job, &ceilings.prices)?;
-        if let Some(rated) = &ceilings.rated {
+        if let Some(unit_bounds) = &ceilings.unit_bounds {
             let mut rates = Vec::new(alloc);
-            for (best, cost) in rated.bests.iter().zip(&job.order.costs) {
+            for (best, cost) in unit_bounds.bests.iter().zip(&job.order.costs) {
                 rates.push(rate_of(*best, *cost))?;
             }
             self.rates = rates;

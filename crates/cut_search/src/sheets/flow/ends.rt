@@ -10,7 +10,7 @@ use crate::sheets::rest::Pack;
 use crate::sheets::settle::Settle;
 use crate::sheets::units::Units;
 use crate::sheets::worker::{WIDE_BEAM, Worker};
-use cut_search_bars::order::Rated;
+use cut_search_bars::order::UnitBounds;
 use std::alloc::{AllocError, Global};
 use std::rc::Rc;
 
@@ -113,9 +113,9 @@ impl Flow {
     }
 
     /// Keeps the worths of the greatest bound.
-    fn keep_worths(&mut self, rated: Option<Rated>) {
-        if let Some(rated) = rated {
-            self.worths = rated.worths;
+    fn keep_worths(&mut self, unit_bounds: Option<UnitBounds>) {
+        if let Some(unit_bounds) = unit_bounds {
+            self.worths = unit_bounds.worths;
             self.points = if matches!(self.stage, Stage::Fine) {
                 FINE
             } else {
@@ -137,9 +137,9 @@ impl Flow {
             worker.hints.take_bound(alloc, &worker.job, &ended)?;
             self.value = ended.value(&worker.job.order);
         }
-        let rated = ended.rated.take();
+        let unit_bounds = ended.unit_bounds.take();
         if is_better {
-            self.keep_worths(rated);
+            self.keep_worths(unit_bounds);
         }
         if ended.has_failed && self.round == 0 {
             self.round = 1;
