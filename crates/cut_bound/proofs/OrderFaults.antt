@@ -18,7 +18,7 @@ use Rattle.cut_sheets.specs.Rounded.{IsStep}
 use Rattle.cut_plan.specs.declared.faults.PlanFault.{PlanFault}
 use Rattle.cut_plan.specs.declared.faults.PlanFault.TheVariants.{NothingFits}
 use Rattle.cut_plan.specs.Faults.{are_bad_wants, is_fitting, is_short}
-use Rattle.cut_plan.proofs.Faultless as faultless
+use Rattle.cut_plan.proofs.Faultless as facts
 use Rattle.cut_classes.specs.Classes.{Classes}
 use Rattle.cut_classes.specs.Grids.{AreUsable}
 use Rattle.cut_classes.proofs.LegalTrees.{ceiling_bounds}
@@ -92,10 +92,10 @@ pub ratable : (kind : Kind) (k : ℕ) (o : Option ℕ) (sizes : List StockSize) 
     → CanBeBounded kind k o sizes (priced kind k (step_of o) wants ns)
 ratable kind k o sizes wants ns e =
     record {
-      own = priced_own kind k s wants ns (faultless.own _ kind wants f.in_range);
+      own = priced_own kind k s wants ns (facts.own _ kind wants f.in_range);
       modest = λ x has. record { worth = omega (arith, (in_range x has).worth); left = omega (arith, (in_range x has).left) };
       worthy = λ x has. omega (arith, (in_range x has).worth);
-      total = omega (arith, faultless.left_small (priced kind k s wants ns) in_range, priced_few kind k s wants ns, faultless.few _ kind wants f.in_range);
+      total = omega (arith, facts.left_small (priced kind k s wants ns) in_range, priced_few kind k s wants ns, facts.few _ kind wants f.in_range);
       flat = flat kind refl;
       stepped = stepped;
       small = none_large kind k o sizes f.small;
@@ -107,18 +107,18 @@ ratable kind k o sizes wants ns e =
     f : IsFaultless (is_no_step kind o) kind k o sizes wants
     f = faultless (is_no_step kind o) kind k o sizes wants e
 
-    in_range : (x : Want) → Contains (priced kind k s wants ns) x → faultless.IsInRange x
+    in_range : (x : Want) → Contains (priced kind k s wants ns) x → facts.IsInRange x
     in_range x has =
         let p = each_priced kind k s wants ns x has in
         let price = is_price kind k s p.picked.want x.worth p.price in
-        let old = faultless.ranges _ kind wants f.in_range p.picked.want p.picked.there in
+        let old = facts.ranges _ kind wants f.in_range p.picked.want p.picked.there in
         let left : x.left ≡ p.picked.want.left = ap (λ (z : Want). z.left) p.picked.same in
         record { worth = (price.some, price.most); left = (omega (arith, left, old.left), omega (arith, left, old.left)) }
 
     flat : (some : Kind) → kind ≡ some → some ≡ Bar → AreUprightOfHeightOne (priced kind k s wants ns)
     flat some same bar x has =
         let p = each_priced kind k s wants ns x has in
-        let all = faultless.flat _ wants (subst (λ (q : Kind). are_bad_wants MAX_ORDER_WANTS q wants ≡ false) (same ∙ bar) f.in_range) in
+        let all = facts.flat _ wants (subst (λ (q : Kind). are_bad_wants MAX_ORDER_WANTS q wants ≡ false) (same ∙ bar) f.in_range) in
         let old = all p.picked.want p.picked.there in
         record { flat = ap (λ (z : Want). z.size.h) p.picked.same ∙ old.flat; upright = ap (λ (z : Want). z.may_turn) p.picked.same ∙ old.upright }
 
@@ -210,7 +210,7 @@ priced_holds kind k step sizes wants ns bound e flat b =
     record {
       exact = b;
       least =
-          picked_bound wants (priced kind k (step_of step) wants ns) k sizes bound (faultless.own _ kind wants f.in_range) (priced_picked kind k (step_of step) wants ns)
+          picked_bound wants (priced kind k (step_of step) wants ns) k sizes bound (facts.own _ kind wants f.in_range) (priced_picked kind k (step_of step) wants ns)
           (bounded_holds kind k step sizes (priced kind k (step_of step) wants ns) bound (ratable kind k step sizes wants ns e) flat b);
     }
 

@@ -2,7 +2,7 @@ use Rattle.std.proofs.Common.{◌≡◌, ◌≤◌, List, false, subst}
 use Rattle.std.proofs.lemmas.List.Elements.{All-weaker}
 use Rattle.cut_measure.specs.declared.sizes.Kind.TheVariants.{Bar}
 use Rattle.cut_bars.specs.declared.bar.TheConstants.{MAX_BAR_LENGTH}
-use Rattle.cut_plan.proofs.Faultless as faultless
+use Rattle.cut_plan.proofs.Faultless as facts
 use Rattle.cut_bound.specs.declared.stock.StockSize.{StockSize}
 use Rattle.cut_bound.specs.declared.stock.BoundedSize.{BoundedSize}
 use Rattle.cut_bound.specs.Bounds.{IsGreatestCost}
@@ -15,7 +15,7 @@ bounded_bars-requires-clause-modest c = c.requires.ratable.1.modest
 
 pub bounded_bars-requires-clause-short : goal.bounded_bars-requires-clause-short
 bounded_bars-requires-clause-short c =
-    All-weaker (λ (z : StockSize). is_large Bar z.size c.args.kerf c.requires.ratable.0 ≡ false) (λ (z : StockSize). z.size.w ≤ MAX_BAR_LENGTH) (λ z e. faultless.short z.size c.args.kerf 0 e)
+    All-weaker (λ (z : StockSize). is_large Bar z.size c.args.kerf c.requires.ratable.0 ≡ false) (λ (z : StockSize). z.size.w ≤ MAX_BAR_LENGTH) (λ z e. facts.short z.size c.args.kerf 0 e)
     c.args.sizes.now c.requires.ratable.1.small
 
 pub total_left-requires : goal.total_left-requires

@@ -3,7 +3,7 @@ use Rattle.std.proofs.lemmas.List.Elements.{All-weaker}
 use Rattle.cut_measure.specs.declared.sizes.Kind.TheVariants.{Sheet}
 use Rattle.cut_sheets.specs.declared.sheet.TheConstants.{MAX_STEPS}
 use Rattle.cut_sheets.specs.Rounded.{steps_down}
-use Rattle.cut_plan.proofs.Faultless as faultless
+use Rattle.cut_plan.proofs.Faultless as facts
 use Rattle.cut_bound.specs.declared.stock.StockSize.{StockSize}
 use Rattle.cut_bound.specs.declared.stock.BoundedSize.{BoundedSize}
 use Rattle.cut_bound.specs.Bounds.{IsGreatestCost}
@@ -17,12 +17,12 @@ bounded_sheets-requires-clause-step c = c.requires.ratable.stepped refl c.args.s
 pub bounded_sheets-requires-clause-wide : goal.bounded_sheets-requires-clause-wide
 bounded_sheets-requires-clause-wide c =
     All-weaker (λ (z : StockSize). is_large Sheet z.size c.args.kerf (Some c.args.step) ≡ false) (λ (z : StockSize). steps_down c.args.kerf c.args.step z.size.w ≤ MAX_STEPS)
-    (λ z e. (faultless.few_steps z.size c.args.kerf c.args.step e).0) c.args.sizes.now c.requires.ratable.small
+    (λ z e. (facts.few_steps z.size c.args.kerf c.args.step e).0) c.args.sizes.now c.requires.ratable.small
 
 pub bounded_sheets-requires-clause-tall : goal.bounded_sheets-requires-clause-tall
 bounded_sheets-requires-clause-tall c =
     All-weaker (λ (z : StockSize). is_large Sheet z.size c.args.kerf (Some c.args.step) ≡ false) (λ (z : StockSize). steps_down c.args.kerf c.args.step z.size.h ≤ MAX_STEPS)
-    (λ z e. (faultless.few_steps z.size c.args.kerf c.args.step e).1) c.args.sizes.now c.requires.ratable.small
+    (λ z e. (facts.few_steps z.size c.args.kerf c.args.step e).1) c.args.sizes.now c.requires.ratable.small
 
 pub returns : goal.returns
 returns c = record {

@@ -2,7 +2,7 @@ use Rattle.std.proofs.Common.{◌≡◌, ◌≤◌, List, sym, subst, arith}
 use Rattle.std.specs.Prelude.{IsTrue, Some, slice_get}
 use Rattle.cut_measure.specs.Measures.{Size}
 use Rattle.cut_plan.specs.Faults.{is_fitting}
-use Rattle.cut_plan.proofs.Faultless as faultless
+use Rattle.cut_plan.proofs.Faultless as facts
 use Rattle.cut_bound.specs.declared.stock.StockSize.{StockSize}
 use Rattle.cut_bound.specs.declared.planned.PlannedUnit.{PlannedUnit}
 use Rattle.cut_bound.specs.Orders.{is_no_step}
@@ -31,7 +31,7 @@ returns-clause-plan c =
     let is = is_single q.wants.items q.kerf c.size_at-size.result add.stock x u same some (add.fits some) made.0 made.1 made.2 made.3 c.requires.wanted c.in_ok-plan.ensures.sides.0 c.in_ok-plan.ensures.sides.1 in
     let good = faultless (is_no_step q.kind q.step) q.kind q.kerf q.step q.sizes.items q.wants.items q.faultless in
     subst (IsFewOrderPlan q.wants.items q.kerf q.stages q.sizes.items) (sym c.in_ok-push.ensures.items)
-    (plan_pushed q.wants.items q.kerf q.sizes.items c.args.units.now.items x u add is q.stages q.limited (faultless.own _ q.kind q.wants.items good.in_range) c.requires.plan)
+    (plan_pushed q.wants.items q.kerf q.sizes.items c.args.units.now.items x u add is q.stages q.limited (facts.own _ q.kind q.wants.items good.in_range) c.requires.plan)
 
 pub returns-clause-done : goal.returns-clause-done
 returns-clause-done c =
