@@ -7,3 +7,4 @@ pub mod Given
 pub mod Judged
 pub mod Orders
 pub mod Written
+pub mod Pages

@@ -1,12 +1,15 @@
 //! The messages of the entries are done anew, and what comes of each is compared with what is kept.
 
-ghost use Rattle.std.specs.Prelude.{◌≡◌, ℕ, ◌+◌, IfOk, None, Some, true};
+ghost use Rattle.std.specs.Prelude.{◌≡◌, ℕ, ◌+◌, ◌<◌, ◌≤◌, IfOk, None, Some, length, take, true};
+ghost use Rattle.std.specs.FinMap.{values};
+ghost use Rattle.std.specs.Option.{IsSomeAnd};
 ghost use Rattle.shop_records.specs.Content.{Content, entry_at, fresh, kept_at};
 ghost use Rattle.shop_records.specs.Messages.{message_id_of, refusal_in};
 ghost use Rattle.shop_forms.specs.Forms.{json_texts};
 ghost use Rattle.shop_book.specs.Equal.{same_entry};
 ghost use Rattle.shop_book.specs.Kept.{OnContent};
 ghost use Rattle.shop_audit.specs.Compared.{IsLookedAt};
+ghost use Rattle.shop_audit.specs.Pages.{AreByNumber, GoesOn, HasEnds, IsByNumber, IsOwn, NumberedBehind};
 ghost use Rattle.shop_audit.specs.Whole.{HoldsPart};
 ghost use Rattle.shop_audit.specs.declared.again.Again.TheVariants.{Same as AllSame};
 ghost use Rattle.shop_audit.specs.declared.again.Found.TheVariants.{Same};
@@ -18,6 +21,9 @@ use shop_messages::kept_message;
 use shop_records::{Entry, Kept, Message, Refusal, Reply, Text};
 use shop_replies::reply_text;
 use std::alloc::{AllocError, Global};
+
+/// How many entries are read at a time.
+const ENTRIES_AT_ONCE: usize = 100;
 
 /// What came of one message that was done anew.
 #[derive(Clone, Copy)]
@@ -203,29 +209,32 @@ fn does_again<F: Book>(
     written(alloc, anew, number, entry, kept)
 }
 
-// Does the message of an entry anew, over the messages of those before.
+// Does the message of an entry anew, over the messages of those before. The entry must have this number.
 fn is_again<B: Book, F: Book>(
     alloc: Global,
     book: &mut B,
     anew: &mut F,
     number: u64,
+    entry: &Entry,
 ) -> Result<Found, BookFault>
-    ensures given { OnContent B.Book book.old book.new (λ m. F.has_clean_disk anew.new → (count : ℕ)
-        → number ≡ count + 1 → HoldsPart json_texts F.Book m anew.old count
-        → IfOk result (λ found. found ≡ Same → HoldsPart json_texts F.Book m anew.new number)) }
+    ensures given { OnContent B.Book book.old book.new (λ m. F.has_clean_disk anew.new → (w : Content) (count : ℕ)
+        → w.kept ≡ m.kept → entry_at w entry.now.number ≡ Some entry.now → number ≡ count + 1
+        → HoldsPart json_texts F.Book w anew.old count
+        → IfOk result (λ found. found ≡ Same → HoldsPart json_texts F.Book w anew.new number)) }
+    ensures number { IfOk result (λ found. found ≡ Same → entry.now.number ≡ number) }
     ensures clean_disk { F.has_clean_disk anew.new → F.has_clean_disk anew.old }
     ensures keeps { IsLookedAt B.Book book.old book.new }
 {
-    let Some(entry) = book.entry(number)? else {
+    if entry.number != number {
         return Ok(Found::Other);
-    };
+    }
     let Some(kept) = book.kept(alloc, entry.message_id.terminal, entry.message_id.number)? else {
         return Ok(Found::Other);
     };
     let Some(message) = kept_message(alloc, kept.command.as_str())? else {
         return Ok(Found::Other);
     };
-    does_again(alloc, anew, &message, number, &entry, &kept)
+    does_again(alloc, anew, &message, number, entry, &kept)
 }
 
 // What is known after one more message that was accepted with the reply that is kept.
@@ -249,6 +258,146 @@ fn is_other(found: Found) -> bool {
     }
 }
 
+// What came of messages that are all accepted with the replies that are kept.
+fn found_of(same: bool) -> Found
+    ensures { result ≡ Same → same ≡ true }
+{
+    if same { Found::Same } else { Found::Differs }
+}
+
+// Does the messages of a page of entries anew, over the messages of those up to a number, and reports the number of the last,
+// or of the first whose message isn't accepted with the reply that is kept.
+fn page_again<B: Book, F: Book, P: Progress>(
+    alloc: Global,
+    book: &mut B,
+    anew: &mut F,
+    page: &[Entry],
+    before: u64,
+    entries: u64,
+    progress: &mut P,
+) -> Result<(Found, u64), BookFault>
+    requires some { before < entries }
+    requires most { before + length page.now ≤ entries }
+    ensures given { OnContent B.Book book.old book.new (λ m. F.has_clean_disk anew.new → (w : Content)
+        → w.kept ≡ m.kept → AreByNumber w page.now → HoldsPart json_texts F.Book w anew.old before
+        → IfOk result (λ done. done.0 ≡ Same → HoldsPart json_texts F.Book w anew.new done.1)) }
+    ensures numbers { IfOk result (λ done. done.0 ≡ Same
+        → NumberedBehind before page.now × (done.1 ≡ before + length page.now)) }
+    ensures on { IfOk result (λ done. (before < done.1) × (done.1 ≤ entries)) }
+    ensures clean_disk { F.has_clean_disk anew.new → F.has_clean_disk anew.old }
+    ensures keeps { IsLookedAt B.Book book.old book.new }
+{
+    if page.is_empty() {
+        return Ok((Found::Other, before + 1));
+    }
+    let mut same = true;
+    let mut number = before;
+    for entry in page {
+        number += 1;
+        let found = is_again(alloc, book, anew, number, entry)?;
+        if is_other(found) {
+            return Ok((Found::Other, number));
+        }
+        same = with_found(same, found);
+        progress.note(number, entries);
+    }
+    Ok((found_of(same), number))
+}
+
+// How many entries a page has at most where so many are left.
+fn page_size(left: u64) -> usize
+    ensures { result ≤ left }
+{
+    if left < ENTRIES_AT_ONCE as u64 {
+        left as usize
+    } else {
+        ENTRIES_AT_ONCE
+    }
+}
+
+// The first of these entries, at most so many.
+fn first_of(rows: &[Entry], most: usize) -> &[Entry]
+    ensures { result.now ≡ take most rows.now }
+{
+    if most < rows.len() {
+        &rows[..most]
+    } else {
+        rows
+    }
+}
+
+// Does the messages of the next page of entries anew.
+fn next_again<B: Book, F: Book, P: Progress>(
+    alloc: Global,
+    book: &mut B,
+    anew: &mut F,
+    before: u64,
+    entries: u64,
+    progress: &mut P,
+) -> Result<(Found, u64), BookFault>
+    requires { before < entries }
+    ensures given { OnContent B.Book book.old book.new (λ m. F.has_clean_disk anew.new → (w : Content)
+        → IsByNumber m w → HoldsPart json_texts F.Book w anew.old before
+        → IfOk result (λ done. done.0 ≡ Same → HoldsPart json_texts F.Book w anew.new done.1)) }
+    ensures numbers { OnContent B.Book book.old book.new (λ m. IfOk result (λ done. done.0 ≡ Same
+        → GoesOn before done.1 (values m.entries))) }
+    ensures on { IfOk result (λ done. (before < done.1) × (done.1 ≤ entries)) }
+    ensures clean_disk { F.has_clean_disk anew.new → F.has_clean_disk anew.old }
+    ensures keeps { IsLookedAt B.Book book.old book.new }
+{
+    let most = page_size(entries - before);
+    let rows = book.entries_after(alloc, before, most)?;
+    let page = first_of(rows.as_slice(), most);
+    page_again(alloc, book, anew, page, before, entries, progress)
+}
+
+fn is_numbered(found: &Option<Entry>, number: u64) -> bool
+    ensures { result ≡ true → IsSomeAnd found.now (λ entry. entry.number ≡ number) }
+{
+    match found {
+        Some(entry) => entry.number == number,
+        None => false,
+    }
+}
+
+// Whether the entry that stands under a number has it.
+fn has_own<B: Book>(book: &mut B, number: u64) -> Result<bool, BookFault>
+    ensures own { OnContent B.Book book.old book.new
+        (λ m. IfOk result (λ own. own ≡ true → IsOwn m number)) }
+    ensures keeps { IsLookedAt B.Book book.old book.new }
+{
+    let found = book.entry(number)?;
+    Ok(is_numbered(&found, number))
+}
+
+// Whether a book has so many entries, and the first and the last stand under their own numbers. A page has entries in the order of
+// the numbers that they stand under, but not these numbers. If the entries' own numbers are those from 1 to how many there are,
+// each stands under its own if the first and the last do.
+fn has_ends<B: Book>(book: &mut B, entries: u64) -> Result<bool, BookFault>
+    ensures ends { OnContent B.Book book.old book.new
+        (λ m. IfOk result (λ ends. ends ≡ true → HasEnds m entries)) }
+    ensures keeps { IsLookedAt B.Book book.old book.new }
+{
+    let (count, _) = book.last_entry()?;
+    let first = has_own(book, 1)?;
+    let last = has_own(book, entries)?;
+    Ok(count == entries && first && last)
+}
+
+// What is found of a book's entries, so many, that are the same anew as pages have them.
+fn all_same<B: Book>(book: &mut B, entries: u64) -> Result<Again, BookFault>
+    ensures ends { OnContent B.Book book.old book.new
+        (λ m. IfOk result (λ all. all ≡ AllSame → HasEnds m entries)) }
+    ensures keeps { IsLookedAt B.Book book.old book.new }
+{
+    let ends = has_ends(book, entries)?;
+    if ends {
+        Ok(Again::Same)
+    } else {
+        Ok(Again::Differ)
+    }
+}
+
 /// Does the messages of all entries anew on a fresh book, in their order, each entry with its time, and notes how far it is.
 pub(crate) fn all_again<B: Book, F: Book, P: Progress>(
     alloc: Global,
@@ -263,18 +412,21 @@ pub(crate) fn all_again<B: Book, F: Book, P: Progress>(
     ensures clean_disk { F.has_clean_disk anew.new → F.has_clean_disk anew.old }
     ensures keeps { IsLookedAt B.Book book.old book.new }
 {
+    if entries == 0 {
+        return Ok(Again::Same);
+    }
     let mut same = true;
-    for before in 0..entries {
-        let number = before + 1;
-        let found = is_again(alloc, book, anew, number)?;
-        if is_other(found) {
+    let mut before = 0;
+    while before < entries {
+        let (done, number) = next_again(alloc, book, anew, before, entries, progress)?;
+        if is_other(done) {
             return Ok(Again::Other(number));
         }
-        same = with_found(same, found);
-        progress.note(number, entries);
+        same = with_found(same, done);
+        before = number;
     }
     if same {
-        Ok(Again::Same)
+        all_same(book, entries)
     } else {
         Ok(Again::Differ)
     }
