@@ -118,7 +118,7 @@ pub(crate) struct RegisteredListener<'a> {
     poll: Poll,
     events: Events,
     keys: Vec<usize>,
-    // Another descriptor of the poll, which makes room for a connection if no descriptor is left.
+    // Another descriptor of the poll, made at an accept: closed, it makes room for a connection if none is left.
     spare: Option<Registry>,
     is_scarce: bool,
 }
@@ -133,13 +133,12 @@ impl<'a> RegisteredListener<'a> {
         let events = Events::with_capacity(alloc, MAX_EVENTS)?;
         let keys = Vec::with_capacity(alloc, MAX_EVENTS)?;
         let poll = registered(rt, listener)?;
-        let spare = poll.registry().try_clone().ok();
         Ok(RegisteredListener {
             listener,
             poll,
             events,
             keys,
-            spare,
+            spare: None,
             is_scarce: false,
         })
     }
