@@ -5,6 +5,7 @@
 mod causes;
 mod looks;
 mod notes;
+mod printing;
 mod shop_lines;
 
 pub use causes::{
@@ -13,4 +14,5 @@ pub use causes::{
 };
 pub use looks::{backup_cause, is_disk_full, is_there, kind_cause, look_at_file, look_at_store};
 pub use notes::{answer_note, backup_note, no_backup_note, reports_failure};
+pub use printing::{has_control, printed_lines, printed_text};
 pub use shop_lines::{ShopPlace, look_at_shop};

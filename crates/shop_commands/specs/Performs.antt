@@ -5,6 +5,7 @@ use Rattle.clap.specs.Faults as clap
 use Rattle.clap.specs.Words.{Text, subcommand_of}
 use Rattle.clap.specs.declared.error.kind.ErrorKind.{ErrorKind}
 use Rattle.clap.specs.declared.error.kind.ErrorKind.TheVariants.{DisplayHelp, DisplayVersion, OutOfMemory}
+use Rattle.shop_advice.specs.Printing.{printed}
 use Rattle.shop_book.specs.declared.books.Book.{Ghosts}
 use Rattle.shop_opening.specs.declared.stores.OpenFault.{OpenFault}
 use Rattle.shop_files.specs.declared.limits.TheConstants.{MAX_TEXT_LEN}
@@ -142,9 +143,13 @@ module _ (out err : SinkChange) where
       ⊎ ((kind ≢ DisplayHelp) × (kind ≢ DisplayVersion) × (kind ≢ OutOfMemory) × (status ≡ 2) × AddsNone out × AddsSome err)
       ⊎ ((status ≡ 1) × AddsNone out × ReportsFault NoMemory err)
 
+-- a mistake's text, in which control characters of words are printed as numbers
+abbrev pub printed_mistake : Mistake → List ℕ
+printed_mistake mistake = printed true (mistake_text mistake)
+
 -- a mistake was reported, with status 2; or that memory for its text ran out
 abbrev pub IsMistakeReported : Mistake → (err : SinkChange) → ℕ → Type 0
-IsMistakeReported mistake err status = ((status ≡ 2) × IsWritten err (mistake_text mistake)) ⊎ ((status ≡ 1) × ReportsFault NoMemory err)
+IsMistakeReported mistake err status = ((status ≡ 2) × IsWritten err (printed_mistake mistake)) ⊎ ((status ≡ 1) × ReportsFault NoMemory err)
 
 -- what `clap` finds wrong with the words
 abbrev pub faults_of : List Text → List ErrorKind

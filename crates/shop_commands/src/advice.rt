@@ -14,7 +14,7 @@ use crate::helping::{lines_cause, step_advice};
 use crate::memory::memory_advice;
 use shop_advice::{
     BackupCause, FileCause, ShopCause, StoreCause, VersionCause, is_there, look_at_file,
-    look_at_shop,
+    look_at_shop, printed_text,
 };
 use shop_audit::Row;
 use shop_files::TextCause;
@@ -185,29 +185,11 @@ fn joint(cause: Cause) -> &'static str
     }
 }
 
-fn has_line_feed(text: &str) -> bool
-    ensures { result ≡ spec.has_line_feed text.now }
-{
-    text.as_bytes().contains(&b'\n')
-}
-
-// A text, or where it has a line feed, other words.
-fn shown<'a>(text: &'a str) -> &'a str
-    ensures { IsPlain result.now }
-{
-    if has_line_feed(text) {
-        "a name of two lines"
-    } else {
-        text
-    }
-}
-
-// The same, as a text of its own. None because memory ran out, as below.
+// A text as it is printed, on one line. None because memory ran out, as below.
 fn plain(alloc: Global, text: &str) -> Option<String>
     ensures { IfSome result (λ plain. IsPlain (string_bytes plain)) }
 {
-    let text = shown(text);
-    format!(in alloc; "{text}").ok()
+    printed_text(alloc, text).ok()
 }
 
 /// The advice for a cause; none if memory ran out.

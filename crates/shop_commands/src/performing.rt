@@ -27,6 +27,7 @@ use crate::restoring::restore;
 use crate::stored::{StoreText, print_stored, serve};
 use clap::Error;
 use clap::error::ErrorKind;
+use shop_advice::printed_lines;
 use shop_opening::Opens;
 use shop_problems::{DEFAULT_CALLS, WholePlan};
 use shop_request::Address;
@@ -276,11 +277,11 @@ fn conclude<R: Reads, E: Sink>(
     }
 }
 
-// What `clap` says.
+// What `clap` says, as it is printed.
 fn error_text(alloc: Global, error: &Error) -> Result<String, AllocError> {
     let mut text = String::new(alloc);
     write!(text, "{error}")?;
-    Ok(text)
+    printed_lines(alloc, text.as_str())
 }
 
 // Writes help.
@@ -334,11 +335,19 @@ fn explain<W: Sink, E: Sink>(alloc: Global, error: &Error, sink: &mut W, errors:
     }
 }
 
-// Reports a mistake in words that `clap` takes.
+// The text that reports a mistake in words that `clap` takes, as it is printed.
+fn printed_mistake(alloc: Global, mistake: Mistake<'_>) -> Result<String, AllocError>
+    ensures { IfOk result (λ text. string_bytes text ≡ spec.printed_mistake mistake.entry) }
+{
+    let text = mistake_text(alloc, mistake)?;
+    printed_lines(alloc, text.as_str())
+}
+
+// Reports a mistake.
 fn report_mistake<E: Sink>(alloc: Global, mistake: Mistake<'_>, errors: &mut E) -> u8
     ensures { IsMistakeReported mistake.entry (change_of E.Sink errors.old errors.new) result }
 {
-    let Ok(text) = mistake_text(alloc, mistake) else {
+    let Ok(text) = printed_mistake(alloc, mistake) else {
         return report_fault(alloc, Fault::NoMemory, errors);
     };
     let _ = write_text(errors, text.as_str());

@@ -4,6 +4,7 @@ ghost use Rattle.std.specs.Prelude.{◌≡◌, IfOk, string_bytes};
 ghost use Rattle.shop_commands.specs.Log as spec;
 
 use libc::{STDERR_FILENO, isatty};
+use shop_advice::printed_text;
 use shop_audit::Progress;
 use std::alloc::{AllocError, Global};
 use std::fs::{self, Files};
@@ -101,7 +102,10 @@ pub(crate) fn note_opening<R: Files + Eprint>(rt: &R, alloc: Global, store: &str
     if found.len() < LARGE_STORE || isatty(STDERR_FILENO) != 1 {
         return;
     }
-    if let Ok(line) = opening_line(alloc, store, found.len() / MEGABYTE) {
+    let Ok(name) = printed_text(alloc, store) else {
+        return;
+    };
+    if let Ok(line) = opening_line(alloc, name.as_str(), found.len() / MEGABYTE) {
         let _ = rt.eprint(line.as_str());
     }
 }

@@ -26,22 +26,22 @@ module _ {C : Type 0} where
   none-few : (clients : Slab (Client C)) → ((key : ℕ) → get clients key ≡ None) → slab_len clients ≤ MAX_CLIENTS
   none-few clients none = omega (arith, count-fewer is_some refl [] clients.slots (λ key. omega (arith, ap counted (none key))))
 
-  cleared-made : (old cleared : Slab (Client C)) → slab_len old ≤ MAX_CLIENTS → EvictsOldest old cleared → slab_len cleared < MAX_CLIENTS
-  cleared-made old cleared few (inl (less, same)) = omega (arith, less, ap (count_by is_some) same)
-  cleared-made old cleared few (inr (full, key, oldest, gone)) =
+  cleared-made : (is_scarce : Bool) (old cleared : Slab (Client C)) → slab_len old ≤ MAX_CLIENTS → EvictsOldest is_scarce old cleared → slab_len cleared < MAX_CLIENTS
+  cleared-made is_scarce old cleared few (inl (less, none, same)) = omega (arith, less, ap (count_by is_some) same)
+  cleared-made is_scarce old cleared few (inr (full, key, oldest, gone)) =
       omega (arith, few, count-but is_some refl key old.slots cleared.slots gone.others, ap counted gone.changed, ap counted oldest.there)
 
-  opened-few : {P : Type 0} (port : PortGhosts P C) (now : Instant) (stream : C) (key : ℕ) (old new : Slab (Client C)) → slab_len old ≤ MAX_CLIENTS → IsOpened port now stream key old new → slab_len new ≤ MAX_CLIENTS
-  opened-few port now stream key old new few o =
-      omega (arith, cleared-made old o.cleared few o.made, count-but is_some refl key o.cleared.slots new.slots o.there.others, ap counted o.there.changed, ap counted o.free)
+  opened-few : {P : Type 0} (port : PortGhosts P C) (at : P) (now : Instant) (stream : C) (key : ℕ) (old new : Slab (Client C)) → slab_len old ≤ MAX_CLIENTS → IsOpened port at now stream key old new → slab_len new ≤ MAX_CLIENTS
+  opened-few port at now stream key old new few o =
+      omega (arith, cleared-made (port.is_scarce at) old o.cleared few o.made, count-but is_some refl key o.cleared.slots new.slots o.there.others, ap counted o.there.changed, ap counted o.free)
 
-  turned-few : {P : Type 0} (port : PortGhosts P C) (old new : Slab (Client C)) → slab_len old ≤ MAX_CLIENTS → IsTurnedAway port old new → slab_len new ≤ MAX_CLIENTS
-  turned-few port old new few t = omega (arith, cleared-made old t.cleared few t.made, ap (count_by is_some) t.same)
+  turned-few : {P : Type 0} (port : PortGhosts P C) (at : P) (old new : Slab (Client C)) → slab_len old ≤ MAX_CLIENTS → IsTurnedAway port at old new → slab_len new ≤ MAX_CLIENTS
+  turned-few port at old new few t = omega (arith, cleared-made (port.is_scarce at) old t.cleared few t.made, ap (count_by is_some) t.same)
 
   received-few : {P : Type 0} (port : PortGhosts P C) (stream : C) (old new : Slab (Client C)) (seen seeing : Times) → slab_len old ≤ MAX_CLIENTS
       → IsReceived port stream old new seen seeing → slab_len new ≤ MAX_CLIENTS
-  received-few port stream old new seen seeing few (now, reported, inl away) = turned-few port old new few away
-  received-few port stream old new seen seeing few (now, reported, inr here) = opened-few port now stream here.0 old new few here.1
+  received-few port stream old new seen seeing few (now, at, reported, inl away) = turned-few port at old new few away
+  received-few port stream old new seen seeing few (now, at, reported, inr here) = opened-few port at now stream here.0 old new few here.1
 
   arrived-few : {P : Type 0} (port : PortGhosts P C) (arrived : List C) (old new : Slab (Client C)) (seen seeing : Times) → slab_len old ≤ MAX_CLIENTS
       → AreReceived port arrived old new seen seeing → slab_len new ≤ MAX_CLIENTS

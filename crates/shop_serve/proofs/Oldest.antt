@@ -7,7 +7,7 @@ use Rattle.slab.specs.Slab.{Slab, get, slab_len, entries}
 use Rattle.slab.proofs.SlabLemmas.{Contains-cons, Contains-cons_cases, Contains-entries}
 use Rattle.shop_serve.specs.declared.clients.Client.{Client}
 use Rattle.shop_serve.specs.declared.clients.TheConstants.{MAX_CLIENTS}
-use Rattle.shop_serve.specs.Clients.{CanOpenOne, IsOldest, MayGo, NoneMayGo}
+use Rattle.shop_serve.specs.Clients.{CanOpenOne, EvictsOldest, IsOldest, MayGo, NoneMayGo}
 
 module _ {C : Type 0} (clients : Slab (Client C)) where
   -- this one was found among those that were looked at, and these are left
@@ -86,6 +86,11 @@ module _ {C : Type 0} (clients : Slab (Client C)) where
       | inl listed ↦ nothing (key, client) listed
       | inr before ↦ subst (λ o. IsSomeAnd o (λ f. instant_nanos f.1 ≤ instant_nanos client.since)) is before
     ]
+
+-- one more may be open, though none may go
+pub none-evicted : {C : Type 0} (clients : Slab (Client C)) (is_scarce : Bool) → NoneMayGo clients → CanOpenOne clients → EvictsOldest is_scarce clients clients
+none-evicted clients is_scarce none (inl few) = inl (few, λ scarce. none, refl)
+none-evicted clients is_scarce none (inr (key, oldest)) = absurd (none key oldest.client oldest.there oldest.goes)
 
 module _ {C : Type 0} (clients : Slab (Client C)) (full : slab_len clients < MAX_CLIENTS → ⊥) where
   -- as many are open as may be, and none may go

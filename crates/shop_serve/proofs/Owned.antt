@@ -83,9 +83,9 @@ module _ (site : Site) {B : Type 0} (book : Ghosts B) where
         by_test true e = absurd (cc e)
         by_test false e = e
 
-    cleared-own : (old cleared : Slab (Client C)) → EvictsOldest old cleared → (key : ℕ) (client : Client C) → get cleared key ≡ Some client → get old key ≡ Some client
-    cleared-own old cleared (inl (few, same)) key client is = ap (λ slots. get (record old { slots = slots }) key) (sym same) ∙ is
-    cleared-own old cleared (inr (full, gone, oldest, updates)) key client is = by_test (nat_eq key gone) refl
+    cleared-own : (is_scarce : Bool) (old cleared : Slab (Client C)) → EvictsOldest is_scarce old cleared → (key : ℕ) (client : Client C) → get cleared key ≡ Some client → get old key ≡ Some client
+    cleared-own is_scarce old cleared (inl (few, none, same)) key client is = ap (λ slots. get (record old { slots = slots }) key) (sym same) ∙ is
+    cleared-own is_scarce old cleared (inr (full, gone, oldest, updates)) key client is = by_test (nat_eq key gone) refl
       where
         by_test : (b : Bool) → nat_eq key gone ≡ b → get old key ≡ Some client
         by_test true e = absurd (cc (updates.changed, subst (λ k. get cleared k ≡ Some client) (eqb-true key gone e) is))
@@ -181,11 +181,11 @@ module _ {C : Type 0} (connection : ConnectionGhosts C) (site : Site) {B : Type 
           let handed = t.answered e in serviced-own handed.0 t.key t.clients new a b c t.between seeing handed.1 (so_far, once)
 
   -- a connection came
-  opened-own : (now : Instant) (stream : C) (key : ℕ) (old new : Slab (Client C)) (a b : B) → IsOpened port now stream key old new → Own site book a b old → Own site book a b new
-  opened-own now stream key old new a b o own =
+  opened-own : (at : P) (now : Instant) (stream : C) (key : ℕ) (old new : Slab (Client C)) (a b : B) → IsOpened port at now stream key old new → Own site book a b old → Own site book a b new
+  opened-own at now stream key old new a b o own =
       at-key site book a b b o.cleared new key (stays site book b) o.there.others
       (λ client is. let same : o.client ≡ client = cc (o.there.changed, is) in subst (HasItsOwn site book a b) same (nothing o.client o.fresh.asks o.fresh.waits))
-      (fewer-own site book a b b old o.cleared (stays site book b) (cleared-own site book old o.cleared o.made) own)
+      (fewer-own site book a b b old o.cleared (stays site book b) (cleared-own site book (port.is_scarce at) old o.cleared o.made) own)
     where
       nothing : (client : Client C) → client.task ≡ None → client.answer ≡ None → HasItsOwn site book a b client
       nothing client asks waits = (
@@ -193,14 +193,14 @@ module _ {C : Type 0} (connection : ConnectionGhosts C) (site : Site) {B : Type 
         subst (λ o. IfSome o (λ x. WasAnswered site book a b client.received.items x.items)) (sym waits) tt,
       )
 
-  turned-own : (old new : Slab (Client C)) (a b : B) → IsTurnedAway port old new → Own site book a b old → Own site book a b new
-  turned-own old new a b t own =
+  turned-own : (at : P) (old new : Slab (Client C)) (a b : B) → IsTurnedAway port at old new → Own site book a b old → Own site book a b new
+  turned-own at old new a b t own =
       fewer-own site book a b b old new (stays site book b)
-      (λ key client is. cleared-own site book old t.cleared t.made key client (ap (λ slots. get (record t.cleared { slots = slots }) key) (sym t.same) ∙ is)) own
+      (λ key client is. cleared-own site book (port.is_scarce at) old t.cleared t.made key client (ap (λ slots. get (record t.cleared { slots = slots }) key) (sym t.same) ∙ is)) own
 
   received-own : (stream : C) (old new : Slab (Client C)) (a b : B) (seen seeing : Times) → IsReceived port stream old new seen seeing → Open a b old → Open a b new
-  received-own stream old new a b seen seeing (now, reported, inl away) (so_far, own) = (so_far, turned-own old new a b away own)
-  received-own stream old new a b seen seeing (now, reported, inr here) (so_far, own) = (so_far, opened-own now stream here.0 old new a b here.1 own)
+  received-own stream old new a b seen seeing (now, at, reported, inl away) (so_far, own) = (so_far, turned-own at old new a b away own)
+  received-own stream old new a b seen seeing (now, at, reported, inr here) (so_far, own) = (so_far, opened-own at now stream here.0 old new a b here.1 own)
 
   arrived-own : (arrived : List C) (old new : Slab (Client C)) (a b : B) (seen seeing : Times) → AreReceived port arrived old new seen seeing → Open a b old → Open a b new
   arrived-own [] old new a b seen seeing run here = subst (λ (n : Slab (Client C)). Open a b n) (sym run.0) here

@@ -65,18 +65,22 @@ module _ {C : Type 0} where
   pub unanswered-empty : (clients : Slab (Client C)) → clients.slots ≡ [] → unanswered clients ≡ 0
   unanswered-empty clients e = rw e refl
 
-  module _ {E P : Type 0} (port : PortGhosts P C) (now : Instant) (stream : C) (old cleared new : Slab (Client C)) (client : Client C) where
+  -- what the port says of itself decides
+  pub evicts-said : (said is_scarce : Bool) (old cleared : Slab (Client C)) → said ≡ is_scarce → EvictsOldest said old cleared → EvictsOldest is_scarce old cleared
+  evicts-said said is_scarce old cleared e made = subst (λ b. EvictsOldest b old cleared) e made
+
+  module _ {E P : Type 0} (port : PortGhosts P C) (at : P) (now : Instant) (stream : C) (old cleared new : Slab (Client C)) (client : Client C) where
     -- it was put under a free key, under which it is registered
     pub opened-so : (r : Result ℕ E) (key : Option ℕ) → key ≡ result_ok r → IfOk r (λ k. (p : P) × port.is_registered p stream k) → IfOk r (λ k. get cleared k ≡ None) → IfOk r (λ k. Updates cleared new k (Some client))
-        → EvictsOldest old cleared → IsFresh now stream client → IfSome key (λ k. IsOpened port now stream k old new)
+        → EvictsOldest (port.is_scarce at) old cleared → IsFresh now stream client → IfSome key (λ k. IsOpened port at now stream k old new)
     opened-so (Ok k) key e registered free there made fresh =
-        subst (λ key. IfSome key (λ k. IsOpened port now stream k old new)) (sym e)
+        subst (λ key. IfSome key (λ k. IsOpened port at now stream k old new)) (sym e)
         (record { cleared = cleared; made = made; client = client; fresh = fresh; free = free; there = there; registered = registered })
-    opened-so (Err f) key e registered free there made fresh = subst (λ key. IfSome key (λ k. IsOpened port now stream k old new)) (sym e) tt
+    opened-so (Err f) key e registered free there made fresh = subst (λ key. IfSome key (λ k. IsOpened port at now stream k old new)) (sym e) tt
 
     -- or there was no memory for it
     pub closed-so : (r : Result ℕ E) (key : Option ℕ) → key ≡ result_ok r → OnErr r (new ≡ record cleared { capacity = new.capacity })
-        → (HasRoomFor cleared 1 → IsOk r) → EvictsOldest old cleared → key ≡ None → IsTurnedAway port old new
+        → (HasRoomFor cleared 1 → IsOk r) → EvictsOldest (port.is_scarce at) old cleared → key ≡ None → IsTurnedAway port at old new
     closed-so (Ok k) key e err fits made none = absurd (cc (e, none))
     closed-so (Err f) key e err fits made none = record { cleared = cleared; made = made; same = ap (λ s. s.slots) err; why = inr (λ free. absurd (cc (fits free))) }
 

@@ -89,15 +89,21 @@ module _ {C : Type 0} where
   abbrev pub CanOpenOne : Slab (Client C) → Type 0
   CanOpenOne clients = (slab_len clients < MAX_CLIENTS) ⊎ ((key : ℕ) × IsOldest clients key)
 
-  -- none is closed while fewer than may be are open; else the oldest that may go is, and no other
-  abbrev pub EvictsOldest : Slab (Client C) → Slab (Client C) → Type 0
-  EvictsOldest old new =
-      ((slab_len old < MAX_CLIENTS) × (new.slots ≡ old.slots)) ⊎ ((MAX_CLIENTS ≤ slab_len old) × (key : ℕ) × IsOldest old key × Updates old new key None)
+  -- as many are open as may be, or the port has no descriptor left
+  abbrev pub IsFull : (is_scarce : Bool) → Slab (Client C) → Type 0
+  IsFull is_scarce clients = (MAX_CLIENTS ≤ slab_len clients) ⊎ (is_scarce ≡ true)
+
+  -- None is closed while fewer than may be are open, and the port has descriptors, or none may go; else the oldest that may go is,
+  -- and no other.
+  abbrev pub EvictsOldest : (is_scarce : Bool) → Slab (Client C) → Slab (Client C) → Type 0
+  EvictsOldest is_scarce old new =
+      ((slab_len old < MAX_CLIENTS) × (is_scarce ≡ true → NoneMayGo old) × (new.slots ≡ old.slots))
+      ⊎ (IsFull is_scarce old × (key : ℕ) × IsOldest old key × Updates old new key None)
 
   -- It isn't opened, though room was made: it can't be registered, or memory for one more runs out.
-  pub record IsTurnedAway {P : Type 0} (port : PortGhosts P C) (old new : Slab (Client C)) : Type 0 where
+  pub record IsTurnedAway {P : Type 0} (port : PortGhosts P C) (at : P) (old new : Slab (Client C)) : Type 0 where
     pub cleared : Slab (Client C)
-    pub made : EvictsOldest old cleared
+    pub made : EvictsOldest (port.is_scarce at) old cleared
     pub same : new.slots ≡ cleared.slots
     pub why : ((p : P) × port.is_deaf p) ⊎ (HasRoomFor cleared 1 → ⊥)
 
@@ -111,9 +117,9 @@ module _ {C : Type 0} where
     pub waits : client.answer ≡ None
 
   -- it is open under a key that was free, once room was made for it, and is registered under this key
-  pub record IsOpened {P : Type 0} (port : PortGhosts P C) (now : Instant) (stream : C) (key : ℕ) (old new : Slab (Client C)) : Type 0 where
+  pub record IsOpened {P : Type 0} (port : PortGhosts P C) (at : P) (now : Instant) (stream : C) (key : ℕ) (old new : Slab (Client C)) : Type 0 where
     pub cleared : Slab (Client C)
-    pub made : EvictsOldest old cleared
+    pub made : EvictsOldest (port.is_scarce at) old cleared
     pub client : Client C
     pub fresh : IsFresh now stream client
     pub free : get cleared key ≡ None

@@ -1,7 +1,8 @@
 -- Lines for standard error: which is written, and what stands there.
-use Rattle.std.specs.Prelude.{ℕ, ◌==◌, ◌-◌, ◌*◌, ◌++◌, Bool, List, [], ◌∷◌, nat_lt, bytes_eq, string_bytes, codes, decimal, if◌then◌else◌}
+use Rattle.std.specs.Prelude.{ℕ, ◌==◌, ◌-◌, ◌*◌, ◌++◌, Bool, false, List, [], ◌∷◌, nat_lt, bytes_eq, string_bytes, codes, decimal, if◌then◌else◌}
 use Rattle.std.specs.Time.{instant_nanos}
 use Rattle.std.specs.declared.time.Instant.{Instant}
+use Rattle.shop_advice.specs.Printing.{printed}
 use Rattle.shop_serve.specs.declared.lines.Due.{Due}
 use Rattle.shop_serve.specs.declared.lines.Due.TheVariants.{Written, LeftOut}
 use Rattle.shop_serve.specs.declared.lines.Known.{Known}
@@ -27,6 +28,10 @@ lost_text lost = if lost == 0 then [] else codes "cutshop: " ++ decimal lost ++ 
 -- how many equal lines were left out, where there are any
 abbrev pub times_text : (left_out : ℕ) → List ℕ
 times_text left_out = if left_out == 0 then [] else codes " (" ++ decimal left_out ++ codes " times)"
+
+-- a line, given without its end, with its control characters as numbers
+abbrev pub printed_line : (line : List ℕ) → List ℕ
+printed_line line = printed false line ++ codes "\n"
 
 -- what is written of a line, behind some that weren't, and some equal ones that were left out
 abbrev pub line_text : (lost : ℕ) (line : List ℕ) (left_out : ℕ) → List ℕ

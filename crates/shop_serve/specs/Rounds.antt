@@ -29,7 +29,8 @@ module _ {C : Type 0} {P : Type 0} (port : PortGhosts P C) where
   -- a connection that came is opened, or it is turned away; the time is read
   abbrev pub IsReceived : C → Slab (Client C) → Slab (Client C) → (seen seeing : Times) → Type 0
   IsReceived stream old new seen seeing =
-      (now : Instant) × Reports seen seeing now × (IsTurnedAway port old new ⊎ ((key : ℕ) × IsOpened port now stream key old new))
+      (now : Instant) × (at : P) × Reports seen seeing now
+      × (IsTurnedAway port at old new ⊎ ((key : ℕ) × IsOpened port at now stream key old new))
 
   -- these came, one after another
   abbrev pub AreReceived : List C → Slab (Client C) → Slab (Client C) → (seen seeing : Times) → Type 0

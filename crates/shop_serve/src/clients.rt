@@ -360,13 +360,13 @@ pub(crate) fn can_open_one<C>(clients: &Slab<Client<C>>) -> bool
     clients.len() < MAX_CLIENTS || oldest(clients).is_some()
 }
 
-/// Closes the oldest connection that may be closed, if the maximum is open.
-fn evict_oldest<C: Drop>(clients: &mut Slab<Client<C>>)
+// Closes the oldest connection that may be closed, if the maximum is open, or if the port has no descriptor left.
+fn evict_oldest<C: Drop>(clients: &mut Slab<Client<C>>, is_scarce: bool)
     requires cleared { CanOpenOne clients.old }
-    ensures cleared { EvictsOldest clients.old clients.new }
+    ensures cleared { EvictsOldest is_scarce clients.old clients.new }
     ensures fewer { unanswered clients.new ≤ unanswered clients.old }
 {
-    if clients.len() < MAX_CLIENTS {
+    if clients.len() < MAX_CLIENTS && !is_scarce {
         return;
     }
     if let Some(key) = oldest(clients) {
@@ -384,14 +384,14 @@ pub(crate) fn open_client<C: Drop, P: Port<C>>(
     clients: &mut Slab<Client<C>>,
 ) -> Option<usize>
     requires cleared { CanOpenOne clients.old }
-    ensures opened { IfSome result (λ key. IsOpened P.Port now stream key clients.old clients.new) }
+    ensures opened { IfSome result (λ key. IsOpened P.Port port.old now stream key clients.old clients.new) }
     ensures registered { IfSome result (λ key. P.is_registered port.new stream key) }
-    ensures closed { result ≡ None → IsTurnedAway P.Port clients.old clients.new }
+    ensures closed { result ≡ None → IsTurnedAway P.Port port.old clients.old clients.new }
     ensures fewer { unanswered clients.new ≤ unanswered clients.old + 1 }
     ensures reported { P.all_reported port.new ≡ P.all_reported port.old }
     ensures given { P.given port.new ≡ P.given port.old }
 {
-    evict_oldest(clients);
+    evict_oldest(clients, port.is_scarce());
     let mut stream = stream;
     if !port.register(&mut stream, clients.vacant_key()) {
         return None;

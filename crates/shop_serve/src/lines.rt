@@ -2,10 +2,11 @@
 //! equal lines are written once a minute.
 
 ghost use Rattle.std.specs.Prelude.{◌≡◌, IfOk, string_bytes};
-ghost use Rattle.shop_serve.specs.Lines.{due_at, due_of, is_line, line_text, lost_text, times_text};
+ghost use Rattle.shop_serve.specs.Lines.{due_at, due_of, is_line, line_text, lost_text, printed_line, times_text};
 
 use libc::net::{POLLOUT, poll};
 use libc::types::pollfd;
+use shop_advice::{has_control, printed_text};
 use std::alloc::{AllocError, Global};
 use std::io::Eprint;
 use std::time::{Clock, Duration, Instant};
@@ -125,6 +126,20 @@ fn is_written<R: Eprint>(rt: &R, text: &str) -> bool {
     takes(text.len()) && rt.eprint(text).is_ok()
 }
 
+// A line without its end.
+fn bare<'a>(line: &'a str) -> &'a str {
+    line.strip_suffix('\n').unwrap_or(line)
+}
+
+// A line, given without its end, with its control characters as numbers.
+fn printed_line(alloc: Global, line: &str) -> Result<String, AllocError>
+    ensures { IfOk result (λ printed. string_bytes printed ≡ printed_line line.now) }
+{
+    let mut printed = printed_text(alloc, line)?;
+    printed.push_str("\n")?;
+    Ok(printed)
+}
+
 // Forgets the first of the lines, where as many are known as may be.
 fn forget_oldest(known: &mut Vec<Known>) {
     if known.len() >= MAX_KNOWN {
@@ -170,8 +185,7 @@ impl Lines {
         if self.lost == 0 && left_out == 0 {
             return is_written(rt, line);
         }
-        let bare = line.strip_suffix('\n').unwrap_or(line);
-        match line_text(self.alloc, self.lost, bare, left_out) {
+        match line_text(self.alloc, self.lost, bare(line), left_out) {
             Ok(text) => is_written(rt, text.as_str()),
             Err(_) => false,
         }
@@ -201,16 +215,29 @@ impl Lines {
         self.lost = self.lost.saturating_add(1);
     }
 
-    /// Writes a line, which includes its line end. A line that can't be written at once is dropped, and the next line
-    /// is preceded by the number of dropped ones. A line equal to an earlier one is written again after a minute, with
-    /// how many were left out. If the clock can't be read, each line is written.
-    pub fn write<R: Eprint + Clock>(&mut self, rt: &R, line: &str) {
+    // Writes one that has no control character before its end.
+    fn write_printed<R: Eprint + Clock>(&mut self, rt: &R, line: &str) {
         match Instant::now(rt) {
             Ok(now) => match due_of(&self.known, line, now) {
                 Due::LeftOut => self.leave_out(line),
                 Due::Written(left_out) => self.write_now(rt, line, left_out, now),
             },
             Err(_) => self.write_undated(rt, line),
+        }
+    }
+
+    /// Writes a line, which includes its line end. Its other control characters are written as numbers, such as
+    /// `\u{1b}`. A line that can't be made or written at once is dropped, and the next line is preceded by the number
+    /// of dropped ones. A line equal to an earlier one is written again after a minute, with how many were left out. If
+    /// the clock can't be read, each line is written.
+    pub fn write<R: Eprint + Clock>(&mut self, rt: &R, line: &str) {
+        if !has_control(bare(line)) {
+            self.write_printed(rt, line);
+            return;
+        }
+        match printed_line(self.alloc, bare(line)) {
+            Ok(printed) => self.write_printed(rt, printed.as_str()),
+            Err(_) => self.lose(),
         }
     }
 }

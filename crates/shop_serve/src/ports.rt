@@ -1,6 +1,6 @@
 //! Where connections come from: a port, and a listener that is registered.
 
-ghost use Rattle.std.specs.Prelude.{◌≡◌, ℕ, List, Option, None, OnOk, map, true, false, ⊤};
+ghost use Rattle.std.specs.Prelude.{◌≡◌, ℕ, Bool, List, Option, None, OnOk, map, true, false, ⊤};
 ghost use Rattle.mio.specs.Events.{items};
 ghost use Rattle.shop_serve.specs.Ports.{given_by, key_of};
 ghost use Rattle.shop_serve.specs.Times.{Adds};
@@ -8,7 +8,7 @@ ghost use Rattle.shop_serve.specs.Times.{Adds};
 use crate::faults::ServeFault;
 use mio::net::{TcpListener, TcpStream as Stream};
 use mio::unix::SourceFd;
-use mio::{Events, Interest, Poll, Token};
+use mio::{Events, Interest, Poll, Registry, Token};
 use std::alloc::{AllocError, Global};
 use std::io::{self, ErrorKind};
 use std::net::{Ipv4Addr, Net, SocketAddr, SocketAddrV4};
@@ -81,6 +81,9 @@ pub(crate) trait Port<C> {
     /// It can't report one more connection.
     ghost is_deaf: { Self → Type 0 };
 
+    /// It took its last descriptor for the connection that it accepted last.
+    ghost is_scarce: { Self → Bool };
+
     /// Waits until a connection is ready, or for this long.
     fn wait(&mut self, wait: Duration) -> Result<(), ServeFault>
         ensures reported { OnOk result (Adds (all_reported self.old) (all_reported self.new) (reported self.new)) }
@@ -94,6 +97,10 @@ pub(crate) trait Port<C> {
     fn accept(&mut self) -> Result<Option<C>, ServeFault>
         ensures given { Adds (given self.old) (given self.new) (given_by result) }
         ensures reported { all_reported self.new ≡ all_reported self.old };
+
+    /// Whether it took its last descriptor for the connection that it accepted last, so another one has to be closed.
+    fn is_scarce(&self) -> bool
+        ensures { result ≡ is_scarce self.now };
 
     /// Reports a connection under a key from now on; false if it can't.
     fn register(&mut self, stream: &mut C, key: usize) -> bool
@@ -111,6 +118,9 @@ pub(crate) struct RegisteredListener<'a> {
     poll: Poll,
     events: Events,
     keys: Vec<usize>,
+    // Another descriptor of the poll, made at an accept: closed, it makes room for a connection if none is left.
+    spare: Option<Registry>,
+    is_scarce: bool,
 }
 
 impl<'a> RegisteredListener<'a> {
@@ -128,6 +138,8 @@ impl<'a> RegisteredListener<'a> {
             poll,
             events,
             keys,
+            spare: None,
+            is_scarce: false,
         })
     }
 }
@@ -182,20 +194,54 @@ fn is_of_connection(error: &io::Error) -> bool {
     }
 }
 
-// The next connection that a listener has, where one waits and can be accepted now.
-fn next_stream(listener: &Listener) -> Result<Option<Stream>, ServeFault> {
+// Whether an error says that no descriptor is left for a connection: EMFILE and ENFILE.
+fn lacks_descriptor(error: &io::Error) -> bool {
+    match error.raw_os_error() {
+        Some(number) => matches!(number, 23 | 24),
+        None => false,
+    }
+}
+
+// The outcome of an accept: a connection; none waits or can be accepted now; or no descriptor is left for one.
+#[derive(Drop)]
+enum Accepted {
+    Stream(Stream),
+    Nothing,
+    NoDescriptor,
+}
+
+// Accepts the next connection of a listener.
+fn next_stream(listener: &Listener) -> Result<Accepted, ServeFault> {
     for _ in 0..MAX_TRIES {
         match listener.socket.accept() {
-            Ok((stream, _)) => return Ok(Some(stream)),
+            Ok((stream, _)) => return Ok(Accepted::Stream(stream)),
             Err(error) => match error.kind() {
                 ErrorKind::Interrupted | ErrorKind::ConnectionAborted => (),
                 _ if is_of_connection(&error) => (),
                 _ if is_gone(&error) => return Err(ServeFault::Port),
-                _ => return Ok(None),
+                _ if lacks_descriptor(&error) => return Ok(Accepted::NoDescriptor),
+                _ => return Ok(Accepted::Nothing),
             },
         }
     }
-    Ok(None)
+    Ok(Accepted::Nothing)
+}
+
+impl<'a> RegisteredListener<'a> {
+    // Accepts the next connection with the spare descriptor, if there is one.
+    fn accept_scarce(&mut self) -> Result<Option<Stream>, ServeFault> {
+        let Some(spare) = self.spare.take() else {
+            return Ok(None);
+        };
+        drop(spare);
+        match next_stream(self.listener)? {
+            Accepted::Stream(stream) => {
+                self.is_scarce = true;
+                Ok(Some(stream))
+            }
+            _ => Ok(None),
+        }
+    }
 }
 
 impl<'a> Port<Stream> for RegisteredListener<'a> {
@@ -208,6 +254,8 @@ impl<'a> Port<Stream> for RegisteredListener<'a> {
     ghost is_registered = { λ _ _ _. ⊤ };
 
     ghost is_deaf = { λ _. ⊤ };
+
+    ghost is_scarce = { λ port. port.is_scarce };
 
     fn wait(&mut self, wait: Duration) -> Result<(), ServeFault> {
         if self.poll.poll(&mut self.events, Some(wait)).is_err() {
@@ -224,7 +272,19 @@ impl<'a> Port<Stream> for RegisteredListener<'a> {
     }
 
     fn accept(&mut self) -> Result<Option<Stream>, ServeFault> {
-        next_stream(self.listener)
+        self.is_scarce = false;
+        if self.spare.is_none() {
+            self.spare = self.poll.registry().try_clone().ok();
+        }
+        match next_stream(self.listener)? {
+            Accepted::Stream(stream) => Ok(Some(stream)),
+            Accepted::Nothing => Ok(None),
+            Accepted::NoDescriptor => self.accept_scarce(),
+        }
+    }
+
+    fn is_scarce(&self) -> bool {
+        self.is_scarce
     }
 
     fn register(&mut self, stream: &mut Stream, key: usize) -> bool {

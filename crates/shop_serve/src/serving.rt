@@ -209,9 +209,9 @@ fn most_served(limit: Option<u32>) -> u64
 /// another. An error of one connection ends only that one.
 ///
 /// A connection has 10 seconds from accept to its request's last byte, and 10 more to take its answer; the time in
-/// which the server answers any request doesn't count. If 256 are open, the oldest that has no answer on its way, and
-/// whose query has had no search step, is closed for the next; if there is none, the next waits. The server makes a
-/// backup between two requests.
+/// which the server answers any request doesn't count. If 256 are open, or descriptors run out, the oldest that has no
+/// answer on its way, and whose query has had no search step, is closed for the next; if there is none, the next waits.
+/// The server makes a backup between two requests.
 ///
 /// `NoMemory` comes only before the first connection. `Port`: connections can't be accepted any more, or waited for.
 /// `Moved`: the store's names lead to other files than at first. After these two the other connections aren't served.

@@ -40,11 +40,43 @@ def files(trial):
     trial.ended(ran, 1, err="fault file\n", why="long.html: it is over 1048576 bytes long")
 
 
-@case("a name of two lines", "A file whose name has a line feed is reported by other words, so that one line stands behind the fault's.")
-def two_lines(trial):
-    for name in ("a\nb", "no\n", "\n"):
+# Names with control characters, each with what is printed of it.
+CONTROLS = (
+    ("a\nb", r"a\u{a}b"),
+    ("\n", r"\u{a}"),
+    ("\x1b[31mred\x1b[0m", r"\u{1b}[31mred\u{1b}[0m"),
+    ("\x01\t\r\x1f\x7f", r"\u{1}\u{9}\u{d}\u{1f}\u{7f}"),
+    ("\x80\x9b\x9f\xa0ä", "\\u{80}\\u{9b}\\u{9f}\xa0ä"),
+)
+
+
+@case(
+    "names with control characters",
+    "A control character in a name is printed as its number, in errors and in the log of a server, so that one line stands behind the "
+    "fault's, and a terminal gets no command.",
+)
+def controls(trial):
+    for name, printed in CONTROLS:
         ran = trial.run("plan", name, "--kerf", "0", "--step", "1")
-        trial.ended(ran, 1, err="fault file\n", why=f"a name of two lines: {MISSING}", sent=name)
+        trial.ended(ran, 1, err="fault file\n", why=f"{printed}: {MISSING}", sent=name)
+        ran = trial.run("ticket", "--store", f"no/{name}", "1")
+        trial.ended(ran, 1, err="fault store\n", why=f"no/{printed}: its folder isn't there; make it first", sent=name)
+        shop = trial.shop(f"{name}.db")
+        shop.kill()
+        trial.equal(shop.process.stderr.read(), begin_line(trial.path(f"{printed}.db")), name)
+
+
+@case(
+    "words with control characters",
+    "What is reported of a mistake in the words has a word's control characters as their numbers.",
+)
+def words_with_controls(trial):
+    for word, printed in (("\x1b[31m", r"\u{1b}[31m"), ("a\x7f\x9bb", r"a\u{7f}\u{9b}b")):
+        for words in ((word,), ("plan", "a.txt", "--kerf", word), ("yield", "--store", "a.db", word), ("orders", "a.csv", f"--{word}")):
+            ran = trial.run(*words)
+            trial.equal((ran.status, ran.out, printed.encode() in ran.err), (2, b"", True), f"{words}: {ran.err}")
+            shown = ran.err.decode()
+            trial.equal([it for it in shown if it != "\n" and (it < " " or "\x7f" <= it <= "\x9f")], [], f"{words}: {ran.err}")
 
 
 @case(

@@ -1,13 +1,15 @@
 """Connections that hold up nobody: silent ones, slow ones, ones that go away, and many at once."""
 
+import os
 import resource
 import time
+from contextlib import suppress
 
 from kit import crowds
 from kit.beside import SOON, work, work_alone
 from kit.case import case
-from kit.glass import GLASS, SHEET, TOTALS
-from kit.shop import answer, is_silent, read_all, request_of
+from kit.glass import GLASS, TOTALS
+from kit.shop import answer, read_all
 from kit.stores import DAY, filled, many_parts
 from kit.terminals import independent
 
@@ -50,6 +52,37 @@ def half(trial):
             seconds = time.monotonic() - begin
             trial.holds(REQUEST_SECONDS - 1 < seconds < REQUEST_SECONDS + 8, f"closed after {seconds:.1f} seconds")
     same_tables(trial, shop)
+
+
+# So many descriptors a shop has, and as many connections say nothing.
+SCARCE = 60
+
+
+def with_few_descriptors():
+    resource.setrlimit(resource.RLIMIT_NOFILE, (SCARCE, SCARCE))
+
+
+@case(
+    "silent connections and few descriptors",
+    "Where silent connections take all descriptors the oldest are closed, and a terminal has its 200 answers at once; the youngest "
+    "stay open. Behind them all answers come as before, and a backup is made.",
+)
+def silent_and_few(trial):
+    os.mkdir(trial.path("backups"))
+    shop = trial.shop(prepare=with_few_descriptors, words=("--backup", "backups"))
+    with crowds.silent(shop, 2 * SCARCE) as held:
+        for _ in range(200):
+            begin = time.monotonic()
+            trial.equal(shop.reply(TOTALS), b'{"name":"NoMaterial","refused":20}')
+            seconds = time.monotonic() - begin
+            trial.holds(seconds < SOON, f"an answer took {seconds:.2f} seconds")
+        for it in held[:SCARCE]:
+            it.settimeout(SOON)
+            trial.equal(it.recv(1), b"", "an old one stays open")
+        held[-1].settimeout(0.2)
+        with suppress(TimeoutError):
+            trial.equal(held[-1].recv(1), None, "the youngest is closed")
+    trial.equal(shop.exchange(b"POST /backup HTTP/1.1\r\nHost: shop\r\nContent-Length: 0\r\n\r\n"), answer(200, '{"backup":1,"ok":"backup"}'))
 
 
 @case(
@@ -138,26 +171,3 @@ def unread(trial):
     report = shop.get("/yield/GLASS")
     trial.equal((len(report) > 1 << 20, report[-5:]), (True, b"\nend\n"))
     same_tables(trial, shop)
-
-
-# More descriptors than the shop has open before its first connection, and fewer than those that come.
-FEW = 24
-
-
-@case(
-    "want of descriptors",
-    "Where more connections come than the shop has descriptors for, one that waits is answered as soon as others have gone.",
-)
-def few_descriptors(trial):
-    shop = trial.shop(prepare=lambda: resource.setrlimit(resource.RLIMIT_NOFILE, (FEW, FEW)))
-    trial.holds(shop.is_open, "the shop doesn't open")
-    with crowds.silent(shop, FEW) as held, shop.connect() as it:
-        it.sendall(request_of(GLASS))
-        trial.holds(is_silent(it, 0.5), "a descriptor is left")
-        begin = time.monotonic()
-        for other in held:
-            other.close()
-        trial.equal(read_all(it), answer(200, '{"material":"GLASS","ok":"material"}'))
-        seconds = time.monotonic() - begin
-        trial.holds(seconds < SOON, f"the answer took {seconds:.2f} seconds")
-    trial.equal(shop.reply(SHEET), b'{"act":1,"count":1,"ok":"receive"}')
