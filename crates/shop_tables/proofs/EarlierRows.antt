@@ -1,5 +1,5 @@
 -- What queries give of tables of version 1.
-use Rattle.std.proofs.Common.{◌≡◌, ℕ, pos, true, List, [], ◌∷◌, drop, map, codes, Result, IfOk, Vec, refl, sym, ap, subst, ◌∙◌, arith}
+use Rattle.std.proofs.Common.{◌≡◌, ℕ, pos, true, List, [], ◌∷◌, drop, map, codes, Result, IfOk, Vec, refl, sym, ap, ◌∙◌, arith}
 use Rattle.std.specs.List.{AllByRecursion}
 use Rattle.std.specs.FinMap.{entries}
 use Rattle.std.specs.declared.alloc.Global.{Global}
@@ -7,7 +7,6 @@ use Rattle.sqlite_value.specs.declared.value.Value.TheVariants.{Int, Text}
 use Rattle.sqlite_value.specs.Order.{Row, column}
 use Rattle.sqlite_trees.specs.declared.store.Store.{Ghosts}
 use Rattle.sqlite_tied.specs.Compute.{everything}
-use Rattle.sqlite.specs.Effect.{Database, IsDatabase}
 use Rattle.sqlite.specs.Held.{Held, state}
 use Rattle.sqlite.specs.Listing.{understood}
 use Rattle.sqlite.specs.Query.{Output}
@@ -17,7 +16,8 @@ use Rattle.sqlite.specs.declared.error.Error.{Error}
 use Rattle.sqlite.specs.declared.rows.Row.{Row as Answered}
 use Rattle.sqlite.proofs.Callers.{reads_as}
 use Rattle.shop_records.specs.declared.records.Totals.{Totals}
-use Rattle.shop_statements.specs.Earlier.{HasNoneReturned, HoldsEarlier, ShowsEarlier, StandsEarlier, earlier_row, earlier_schema, HoldsSecond, ShowsSecond, StandsSecond}
+use Rattle.shop_statements.specs.Earlier.{HasNoneReturned, HoldsEarlier, ShowsEarlier, earlier_row, earlier_schema, HoldsSecond, ShowsSecond}
+use Rattle.shop_tables.specs.Stays.{shows_earlier_along, shows_second_along}
 use Rattle.shop_tables.specs.Visiting.{IsHeldAt}
 use Rattle.shop_tables.specs.Listing.{listed_row}
 use Rattle.shop_statements.specs.Selecting.{is_select}
@@ -29,15 +29,6 @@ use Rattle.shop_tables.proofs.ListTexts.{by_code, by_rowid, first_of, all_codes_
 
 -- ---- the books that were held
 
-pub shows_earlier_along : (old new : State) (b : Books) → old.now ≡ new.now → ShowsEarlier old b → ShowsEarlier new b
-shows_earlier_along old new b same h = record {
-  schema = sym (ap (λ (d : Database). d.schema) same) ∙ h.schema;
-  sound = subst IsDatabase same h.sound;
-  stands = subst (λ (d : Database). StandsEarlier d.trees b.content b.totals) same h.stands;
-  keyed = h.keyed;
-  uses = h.uses;
-}
-
 pub held_along : (old new : State) (b : Books) → HasCleanDisk old → HoldsEarlier old b → IsAsWas old new → ShowsEarlier new b × (new.now ≡ new.committed)
 held_along old new b clean was along =
     let before = was clean along.was_open in
@@ -46,15 +37,6 @@ held_along old new b clean was along =
 pub stays_earlier : (old new : State) (b : Books) → Leaves old new → HoldsEarlier old b → HoldsEarlier new b
 stays_earlier old new b left was clean up =
     let now = held_along old new b (omega (arith, left.survives.clean)) was (left.as_was clean up) in record { shows = now.0; committed = now.1 }
-
-pub shows_second_along : (old new : State) (b : Books) → old.now ≡ new.now → ShowsSecond old b → ShowsSecond new b
-shows_second_along old new b same h = record {
-  schema = sym (ap (λ (d : Database). d.schema) same) ∙ h.schema;
-  sound = subst IsDatabase same h.sound;
-  stands = subst (λ (d : Database). StandsSecond d.trees b.content b.totals) same h.stands;
-  keyed = h.keyed;
-  uses = h.uses;
-}
 
 pub second_along : (old new : State) (b : Books) → HasCleanDisk old → HoldsSecond old b → IsAsWas old new → ShowsSecond new b × (new.now ≡ new.committed)
 second_along old new b clean was along =

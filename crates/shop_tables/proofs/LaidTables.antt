@@ -1,13 +1,11 @@
--- The transaction that makes the tables, or brings them to version 2.
-use Rattle.std.proofs.Common.{◌≡◌, inl, inr, false, true≢false, IsTrue, sym, ap, subst, ◌∙◌}
+-- The transaction that makes the tables, or brings them to version 3.
+use Rattle.std.proofs.Common.{◌≡◌, false, IsTrue, sym, ap, subst, ◌∙◌}
 use Rattle.sqlite_trees.specs.declared.store.Store.{Ghosts}
 use Rattle.sqlite_trees.specs.Tree.{Trees}
 use Rattle.sqlite.specs.Effect.{Database}
 use Rattle.sqlite.specs.State.{State, HasCleanDisk, IsRolledBack, Survives}
 use Rattle.sqlite.specs.State as sql
 use Rattle.sqlite.specs.Held.{Held}
-use Rattle.sqlite.specs.Steps.{FailsToCommit}
-use Rattle.sqlite.specs.declared.error.Error.{Error}
 use Rattle.sqlite.proofs.StateLemmas.{survives_then}
 use Rattle.sqlite.proofs.Callers.{survives_begin}
 use Rattle.shop_tables.specs.Adopting.{HoldsMade, IsAsBefore, MakesTables, StandsMade}
@@ -32,13 +30,6 @@ module _ {S : Type 0} (g : Ghosts S) (h : Held S) where
     tables_survive within end = survives_begin g h last (λ db. StandsIn db b)
         (survives_then (begun g h) done last (λ _. ⊥) (λ db. db ≡ done.now.trees) (λ db. StandsIn db b) (λ _ db none. absurd none)
         (λ clean db is. subst (λ t. StandsIn t b) (sym is) (stands_in done b (made.shows (late clean)))) within.survives end)
-
-    -- a commit that fails has undone it
-    pub tables_undone : (e : Error) → (HasCleanDisk last → FailsToCommit done last e) → HasCleanDisk last → IsRolledBack done last
-    tables_undone e fails clean = elim (fails clean) [
-      | inl failed ↦ failed.3
-      | inr ended ↦ absurd (true≢false (sym (made.on (late clean)).2 ∙ ended.1))
-    ]
 
   module _ (done last : State) (late : HasCleanDisk last → HasCleanDisk done) where
     module _ (IsMade : Database → Database → Type 0) (made : HasCleanDisk done → IsMade (old g h).now done.now) where

@@ -18,7 +18,6 @@ pub mod EarlierRows
 pub mod EarlierParts
 pub mod SecondRows
 pub mod SecondParts
-pub mod RenewedTables
 pub mod Taken
 pub mod LaidTables
 pub mod Reopened

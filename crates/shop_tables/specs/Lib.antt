@@ -9,4 +9,5 @@ pub mod ListedRows
 pub mod RowsShown
 pub mod Laying
 pub mod Renewing
+pub mod Stays
 pub mod RowsFrom

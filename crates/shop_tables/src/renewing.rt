@@ -2,10 +2,12 @@
 
 ghost use Rattle.std.specs.Prelude.{◌≡◌, false, map, IfOk, IsTrue, OnErr, OnOk};
 ghost use Rattle.std.specs.FinMap.{entries};
-ghost use Rattle.sqlite.specs.State.{HasCleanDisk, Survives};
-ghost use Rattle.sqlite.specs.Held.{state};
-ghost use Rattle.shop_tables.specs.Adopting.{IsAsBefore, LeavesBooks, MakesSecond, MakesTables};
+ghost use Rattle.sqlite.specs.Effect.{Database};
+ghost use Rattle.sqlite.specs.State.{HasCleanDisk, State, Survives};
+ghost use Rattle.sqlite.specs.Held.{Held, state};
+ghost use Rattle.shop_tables.specs.Adopting.{HoldsMade, IsAsBefore, LeavesBooks, MakesSecond, MakesTables, StandsMade};
 ghost use Rattle.shop_tables.specs.Renewing.{HoldsExtended, HoldsRenewed, IsBroughtOn, IsExtended, IsRenewed, SeesEarlier, StandsExtended, StandsRenewed};
+ghost use Rattle.shop_tables.specs.Stays.{earlier_stays, second_stays};
 ghost use Rattle.shop_tables.specs.Laying.{Adds, ClearsTotals, CopiesTotals, Does, SetsLastVersion, SetsVersion};
 ghost use Rattle.shop_tables.specs.declared.laying.TheConstants.{TOTALS2};
 ghost use Rattle.shop_tables.specs.declared.renewing.TheConstants.{COPY_TOTALS, CLEAR_TOTALS, SET_LAST_VERSION, SET_VERSION};
@@ -117,26 +119,96 @@ pub(crate) fn extend_tables<S: Alter>(tx: &mut Transaction<'_, S>) -> Result<(),
     run_all(tx, &LAST_STEPS)
 }
 
-// Brings tables of version 1 to version 2, and from it to version 3.
-#[tactic(auto, using(shop_statements::proofs::Steps::within_then))]
-fn bring_on<S: Alter>(tx: &mut Transaction<'_, S>) -> Result<(), Error>
-    ensures same_reference { tx.new.conn.ghost_name ≡ tx.old.conn.ghost_name }
-    ensures renewed { (b : Books)
-        → (HasCleanDisk (state S.Store tx.old.conn.now)
-        → IsTrue (state S.Store tx.old.conn.now).is_open
-        → ShowsEarlier (state S.Store tx.old.conn.now) b)
-        → OnOk result
-        (MakesTables (state S.Store tx.old.conn.now) (state S.Store tx.new.conn.now) b) }
-    ensures ran { OnOk result (Ran (state S.Store tx.old.conn.now)
-        (state S.Store tx.new.conn.now)) }
-    ensures beside { SeesEarlier (state S.Store tx.old.conn.now)
-        → HasCleanDisk (state S.Store tx.new.conn.now)
-        → OnOk result (IsBroughtOn (state S.Store tx.old.conn.now).now
-        (state S.Store tx.new.conn.now).now) }
-    ensures within { Within (state S.Store tx.old.conn.now) (state S.Store tx.new.conn.now) }
+/// What brings tables of an earlier version to version 3.
+trait Upgrade<S: Alter> {
+    /// The connection holds the books in that version.
+    ghost holds: { State → Books → Type 0 };
+
+    /// What a database is brought to.
+    ghost brings: { Database → Database → Type 0 };
+
+    /// Runs it inside a transaction.
+    fn run(tx: &mut Transaction<'_, S>) -> Result<(), Error>
+        ensures same_reference { tx.new.conn.ghost_name ≡ tx.old.conn.ghost_name }
+        ensures makes { (b : Books) → holds (state S.Store tx.old.conn.now) b
+            → OnOk result
+            (MakesTables (state S.Store tx.old.conn.now) (state S.Store tx.new.conn.now) b) }
+        ensures ran { OnOk result (Ran (state S.Store tx.old.conn.now)
+            (state S.Store tx.new.conn.now)) }
+        ensures beside { SeesEarlier (state S.Store tx.old.conn.now)
+            → HasCleanDisk (state S.Store tx.new.conn.now)
+            → OnOk result (brings (state S.Store tx.old.conn.now).now
+            (state S.Store tx.new.conn.now).now) }
+        ensures within { Within (state S.Store tx.old.conn.now) (state S.Store tx.new.conn.now) };
+
+    /// Where the connection sees what it saw, it holds the books still.
+    ghost stays: { (old new : Held S) (b : Books)
+        → (HasCleanDisk (state S.Store new) → HasCleanDisk (state S.Store old))
+        → IsAsBefore (state S.Store old) (state S.Store new)
+        → holds (state S.Store old) b → holds (state S.Store new) b };
+}
+
+/// From version 1 to version 2, and from it to version 3.
+struct FromFirst;
+
+impl<S: Alter> Upgrade<S> for FromFirst {
+    ghost holds = { HoldsEarlier };
+
+    ghost brings = { IsBroughtOn };
+
+    #[tactic(auto, using(shop_statements::proofs::Steps::within_then))]
+    fn run(tx: &mut Transaction<'_, S>) -> Result<(), Error> {
+        renew_tables(tx)?;
+        extend_tables(tx)
+    }
+
+    ghost stays = { λ _ _. earlier_stays _ _ };
+}
+
+/// From version 2 to version 3.
+struct FromSecond;
+
+impl<S: Alter> Upgrade<S> for FromSecond {
+    ghost holds = { HoldsSecond };
+
+    ghost brings = { IsExtended };
+
+    fn run(tx: &mut Transaction<'_, S>) -> Result<(), Error> {
+        extend_tables(tx)
+    }
+
+    ghost stays = { λ _ _. second_stays _ _ };
+}
+
+// Brings tables of an earlier version to version 3 in one transaction.
+fn upgrade_shop<S: Alter, U: Upgrade<S>>(conn: &mut Connection<S>) -> Result<(), TableFault>
+    requires outside { conn.old.in_transaction ≡ false }
+    ensures mode { conn.new.in_transaction ≡ false }
+    ensures earlier { HasCleanDisk (state S.Store conn.new)
+        → HasCleanDisk (state S.Store conn.old) }
+    ensures upgraded { (b : Books) → U.holds (state S.Store conn.old) b
+        → OnOk result (Holds (state S.Store conn.new) b) }
+    ensures as_before { (b : Books) → U.holds (state S.Store conn.old) b
+        → OnErr result (U.holds (state S.Store conn.new) b) }
+    ensures crash { (b : Books) → U.holds (state S.Store conn.old) b
+        → Survives (state S.Store conn.old) (state S.Store conn.new) (λ db. StandsIn db b) }
+    ensures after { (b : Books) → U.holds (state S.Store conn.old) b
+        → OnOk result (LeavesBooks (state S.Store conn.new) b) }
+    ensures schema { (b : Books) → U.holds (state S.Store conn.old) b
+        → OnOk result (HasShopSchema (state S.Store conn.new)) }
+    ensures beside { SeesEarlier (state S.Store conn.old)
+        → OnOk result (HoldsMade U.brings (state S.Store conn.old) (state S.Store conn.new)) }
+    ensures undone { OnErr result (IsAsBefore (state S.Store conn.old) (state S.Store conn.new)) }
+    ensures beside_crash { SeesEarlier (state S.Store conn.old)
+        → Survives (state S.Store conn.old) (state S.Store conn.new)
+        (λ db. IsTrue (state S.Store conn.old).is_open
+        × StandsMade U.brings (state S.Store conn.old).now db) }
 {
-    renew_tables(tx)?;
-    extend_tables(tx)
+    let _outside = conn.is_autocommit();
+    let mut tx = conn.transaction();
+    U::run(&mut tx)?;
+    tx.commit()?;
+    Ok(())
 }
 
 /// Brings tables of version 1 to version 2 and from it to version 3, in one transaction: as a whole, or not at all.
@@ -162,11 +234,7 @@ pub fn renew_shop<S: Alter>(conn: &mut Connection<S>) -> Result<(), TableFault>
         → Survives (state S.Store conn.old) (state S.Store conn.new)
         (StandsRenewed (state S.Store conn.old)) }
 {
-    let _outside = conn.is_autocommit();
-    let mut tx = conn.transaction();
-    bring_on(&mut tx)?;
-    tx.commit()?;
-    Ok(())
+    upgrade_shop::<S, FromFirst>(conn)
 }
 
 /// Brings tables of version 2 to version 3 in one transaction: as a whole, or not at all.
@@ -192,9 +260,5 @@ pub fn extend_shop<S: Alter>(conn: &mut Connection<S>) -> Result<(), TableFault>
         → Survives (state S.Store conn.old) (state S.Store conn.new)
         (StandsExtended (state S.Store conn.old)) }
 {
-    let _before = conn.is_autocommit();
-    let mut tx = conn.transaction();
-    extend_tables(&mut tx)?;
-    tx.commit()?;
-    Ok(())
+    upgrade_shop::<S, FromSecond>(conn)
 }

@@ -4,10 +4,12 @@ use Rattle.sqlite.specs.State.{HasCleanDisk}
 use Rattle.shop_tables.proofs.ExtendedBeside.{brought_on, sees_second}
 use Rattle.shop_tables.proofs.Making.{made_second}
 use Rattle.shop_statements.proofs.Steps.{on_ok_then, ran_then, went_as}
-use Rattle.shop_tables.proofs.renewing.bring_on.Goals as goal
+use Rattle.shop_tables.proofs.renewing.FromFirstUpgrade.run.Goals as goal
 
-pub returns-clause-renewed : goal.returns-clause-renewed
-returns-clause-renewed g c b has = made_second _ _ _ b c.extend_tables.result (c.in_ok-renew_tables.ensures.renewed b has) (c.extend_tables.ensures.extended b (λ clean up. (c.in_ok-renew_tables.ensures.renewed b has).shows clean))
+pub returns-clause-makes : goal.returns-clause-makes
+returns-clause-makes g c b was =
+    let second = c.in_ok-renew_tables.ensures.renewed b (λ clean up. (was clean up).shows) in
+    made_second _ _ _ b c.extend_tables.result second (c.extend_tables.ensures.extended b (λ clean up. second.shows clean))
 
 pub returns-clause-ran : goal.returns-clause-ran
 returns-clause-ran g c = on_ok_then c.extend_tables.result (λ last. ran_then _ _ _ c.in_ok-renew_tables.ensures.ran (went_as _ _ last)) c.extend_tables.ensures.ran
