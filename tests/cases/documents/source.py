@@ -395,6 +395,7 @@ HINTING = {"cut_search", "cut_search_bars", "cut_master", "cut_fill_bars", "cut_
 
 # The number of each other constant that no law has, the functions that use it, and what it would change that no clause says.
 LAWLESS = {
+    "shop_audit again ENTRIES_AT_ONCE": ("100", "page_size", "how many entries are read at a time"),
     "shop_audit naming MAX_NODES": ("1024", "first_part_of", "more than an act's parts: a part behind would not be told as the first row that differs"),
     "cut_classes choice MIN_POINTS": ("4", "points_along", "the fewest points of an axis that are asked for: fewer give a higher bound of what a sheet is worth"),
     "cut_classes choice MAX_NARROW": ("500", "points_along", "a side that an axis has room for more often, and more often than it has points, is not counted: that lowers a bound of costs"),
