@@ -19,8 +19,9 @@ const PIVOTS: u32 = 8;
 /// So many steps of pivots are made for a program at most.
 const PIVOT_STEPS: u32 = 2000;
 
-/// Columns of so many sizes are read from a table.
-const MAX_READ: usize = 12;
+/// Columns of so many sizes are read from a table. Remnants are often worth most for their cost, though
+/// no more of them can be cut: were only a few sizes read, no column that gains might be among them.
+const MAX_READ: usize = 32;
 
 /// So many of them are offered.
 const MAX_OFFERED: usize = 3;
