@@ -75,18 +75,18 @@ page_goes_on (suc most) a b after (x ∷ xs) le n is = by (nat_lt after x.number
 -- ---- a page
 
 -- an element at a place is among all
-pub item_in : {X : Type 0} (xs : List X) (i : ℕ) (default : X) → i < length xs → IsIn (get_or xs i default) xs
-item_in [] i default within = absurd (omega (arith, within))
-item_in (y ∷ ys) zero default within = inl refl
-item_in (y ∷ ys) (suc i) default within = inr (item_in ys i default (omega (arith, within)))
+pub item_in : {X : Type 0} (xs : List X) (i : ℕ) (x : X) → i < length xs → x ≡ get_or xs i x → IsIn x xs
+item_in [] i x within is = absurd (omega (arith, within))
+item_in (y ∷ ys) zero x within is = inl is
+item_in (y ∷ ys) (suc i) x within is = inr (item_in ys i x (omega (arith, within)) is)
 
 -- one more that has the next number
-pub numbered_next : (a : ℕ) (xs : List Entry) (i : ℕ) (default : Entry) → i < length xs → NumberedBehind a (take i xs) → (get_or xs i default).number ≡ a + i + 1 → NumberedBehind a (take (i + 1) xs)
-numbered_next a [] i default within n own = absurd (omega (arith, within))
-numbered_next a (y ∷ ys) zero default within n own = (own ∙ (omega arith), tt)
-numbered_next a (y ∷ ys) (suc i) default within n own =
+pub numbered_next : (a : ℕ) (xs : List Entry) (i : ℕ) (x : Entry) → i < length xs → x ≡ get_or xs i x → NumberedBehind a (take i xs) → x.number ≡ a + i + 1 → NumberedBehind a (take (i + 1) xs)
+numbered_next a [] i x within is n own = absurd (omega (arith, within))
+numbered_next a (y ∷ ys) zero x within is n own = (ap (λ (z : Entry). z.number) (sym is) ∙ own ∙ (omega arith), tt)
+numbered_next a (y ∷ ys) (suc i) x within is n own =
     let more : suc (i + 1) ≡ suc i + 1 = omega arith in
-    subst (λ k. NumberedBehind a (take k (y ∷ ys))) more (n.0, numbered_next (a + 1) ys i default (omega (arith, within)) n.1 (own ∙ (omega arith)))
+    subst (λ k. NumberedBehind a (take k (y ∷ ys))) more (n.0, numbered_next (a + 1) ys i x (omega (arith, within)) is n.1 (own ∙ (omega arith)))
 
 taken_in : {X : Type 0} (n : ℕ) (xs : List X) (x : X) → IsIn x (take n xs) → IsIn x xs
 taken_in zero xs x i = absurd i

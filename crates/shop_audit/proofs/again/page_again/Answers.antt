@@ -25,10 +25,10 @@ loop-entry-preserved g c =
     let at : c.loop-entry.number ≡ c.args.before + i = before.number in
     record {
       given = λ same clean_anew clean m held w alike there part.
-          one.given clean m (before.keeps.stays (one.keeps.clean_disk clean) m held) clean_anew w c.loop-entry.number alike (there _ (item_in page i _ c.loop-entry-test.true)) refl
+          one.given clean m (before.keeps.stays (one.keeps.clean_disk clean) m held) clean_anew w c.loop-entry.number alike (there _ (item_in page i c.entry-item.result c.loop-entry-test.true c.entry-item.is)) refl
           (before.given (kept.kept same) (one.clean_disk clean_anew) (one.keeps.clean_disk clean) m held w alike there part) (kept.found same);
       numbers = λ same.
-          numbered_next c.args.before page i _ c.loop-entry-test.true (before.numbers (kept.kept same)) (one.number (kept.found same) ∙ ap (λ n. n + 1) at);
+          numbered_next c.args.before page i c.entry-item.result c.loop-entry-test.true c.entry-item.is (before.numbers (kept.kept same)) (one.number (kept.found same) ∙ ap (λ n. n + 1) at);
       number = omega (arith, at);
       clean_disk = λ clean. before.clean_disk (one.clean_disk clean);
       keeps = looked g.B.Book c.args.book.now c.loop-entry.book c.is_again.new.book before.keeps one.keeps;
