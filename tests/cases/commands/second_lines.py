@@ -61,9 +61,10 @@ def controls(trial):
         trial.ended(ran, 1, err="fault file\n", why=f"{printed}: {MISSING}", sent=name)
         ran = trial.run("ticket", "--store", f"no/{name}", "1")
         trial.ended(ran, 1, err="fault store\n", why=f"no/{printed}: its folder isn't there; make it first", sent=name)
-        shop = trial.shop(f"{name}.db")
-        shop.kill()
-        trial.equal(shop.process.stderr.read(), begin_line(trial.path(f"{printed}.db")), name)
+        shop = trial.shop(f"{name}.db", limit=1)
+        shop.get("/materials")
+        store = trial.path(f"{printed}.db")
+        trial.equal(shop.end()[2], begin_line(store) + end_line(store), name)
 
 
 @case(
