@@ -289,6 +289,33 @@ def changed_times(trial):
         audited(trial, name, COUNT, torn)
 
 
+# How many entries stores have: each side of one, two and three hundred.
+LENGTHS = (99, 100, 101, 200, 201, 301)
+
+
+@case(
+    "audits of hundreds of entries",
+    "Stores of 99 to 301 entries are whole; where the reply of an entry was changed, of the first, the last, or one on either side of a "
+    "hundred, it is told by its number, and so is another word in its entry.",
+)
+def hundreds(trial):
+    for count in LENGTHS:
+        yard = Yard()
+        yard.material("STEEL")
+        for _ in range(count - 1):
+            yard.receive("STEEL", 1)
+        shop = yard.serve(trial, f"{count}.db")
+        shop.kill()
+        trial.equal(len(yard.lines), count, "the messages")
+        audited(trial, f"{count}.db", count)
+        for number in (1, 99, 100, 101, 200, 201, count):
+            if number > count:
+                continue
+            audited(trial, changed(trial, shop.store, "reply.db", other_reply(number)), count, f"entry {number}: another reply")
+            later = f"UPDATE journal SET word = 'scrap' WHERE entry = {number}"
+            audited(trial, changed(trial, shop.store, "word.db", later), count, f"journal: {number} differs")
+
+
 # ---- stores that others write
 
 
