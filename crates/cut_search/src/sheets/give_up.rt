@@ -11,9 +11,6 @@ use std::rc::Rc;
 /// By how much values are changed by chance, in 1000ths.
 const NOISE: u64 = 50;
 
-/// What may be left out more than the least, in 1000ths of the largest unit.
-const SLACK: u64 = 40;
-
 /// Of 100 tries so many take one unit apart.
 const ONES: u64 = 40;
 
@@ -28,6 +25,15 @@ const BETTER_SIZE: u64 = 70;
 
 /// Of so many sizes all are looked at; of more as many by chance.
 const FEW_SIZES: usize = 48;
+
+/// How long giving up goes on, and how far it may lead away.
+#[derive(Clone, Copy)]
+pub struct Persistence {
+    /// It is tired after so many tries in a row without a gain.
+    pub patience: u32,
+    /// So much more than the least may be left out, in 1000ths of the largest unit.
+    pub slack: u64,
+}
 
 /// How it ended.
 #[derive(Clone, Copy, PartialEq, Eq)]
@@ -153,7 +159,7 @@ impl GiveUp {
         rates: &[u64],
         most_cost: u64,
         goal: u64,
-        patience: u32,
+        persistence: Persistence,
     ) -> Result<GiveUp, AllocError> {
         let job = &worker.job;
         let mut largest = 0u64;
@@ -169,12 +175,12 @@ impl GiveUp {
             rates: Vec::from_slice(alloc, rates)?,
             most_cost,
             same_sizes: false,
-            slack: largest.saturating_mul(1024) / 1000 * SLACK,
+            slack: (largest.saturating_mul(1024) / 1000).saturating_mul(persistence.slack),
             goal,
             loss,
             least: loss,
             fails: 0,
-            patience,
+            patience: persistence.patience,
             now: None,
         })
     }

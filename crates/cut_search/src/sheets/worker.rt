@@ -10,8 +10,8 @@ use std::alloc::{AllocError, Global};
 /// The beam of the very first plan.
 pub const PLAIN_BEAM: usize = 4;
 
-/// The beam of first plans, of the program's columns and of dives.
-pub const WIDE_BEAM: usize = 40;
+/// The beam of first plans, of the program's columns and of dives. A wider one takes longer and brings no more.
+pub const WIDE_BEAM: usize = 24;
 
 /// The beam where units are filled again and again.
 pub const BEAM: usize = 20;

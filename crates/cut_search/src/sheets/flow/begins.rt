@@ -3,7 +3,7 @@
 use crate::sheets::ceilings::Ceilings;
 use crate::sheets::dive::Dive;
 use crate::sheets::flow::{COARSE, FINE, Flow, Stage, Task};
-use crate::sheets::give_up::{GiveUp, cheapened};
+use crate::sheets::give_up::{GiveUp, Persistence, cheapened};
 use crate::sheets::greedy::{Greedy, MAX_BATCHES};
 use crate::sheets::hints::Hints;
 use crate::sheets::job::{Job, sum_of};
@@ -15,11 +15,11 @@ use cut_search_bars::relax::offered_sizes;
 use std::alloc::{AllocError, Global};
 use std::rc::Rc;
 
-/// Rounds of value correction, before the prices and with them.
+/// Rounds of plans from nothing, before the prices and with them.
 const ROUNDS: u32 = 2;
 
-/// Rounds of plans from nothing over several sizes.
-const MIXED_ROUNDS: u32 = 4;
+/// The noise of the values in the later of these rounds over several sizes, in 1000ths.
+const ROUND_NOISE: u64 = 30;
 
 /// Fillings of the program of plans, of one size.
 const COLUMNS: u32 = 300;
@@ -37,21 +37,30 @@ const MIXED_COARSE_TABLES: u32 = 250;
 
 const MIXED_FINE_TABLES: u32 = 1;
 
-/// So many fillings give units up before the finer bound.
+/// So many fillings give units up before the finer bound, of one size and of several.
 const FIRST_GAINS: u64 = 1500;
+
+const MIXED_FIRST_GAINS: u64 = 1000;
 
 /// So many are made in all, before the large rest is looked for, of one size and of several.
 const MAX_FILLINGS: u64 = 12_000;
 
-const MIXED_FILLINGS: u64 = 4000;
+const MIXED_FILLINGS: u64 = 1500;
 
 /// So many times units are given up at most.
 const MAX_ATTEMPTS: u32 = 2000;
 
-/// So many tries without a gain begin anew, of one size and of several.
-const PATIENCE: u32 = 300;
+/// How units of one size are given up.
+const PERSISTENCE: Persistence = Persistence {
+    patience: 300,
+    slack: 40,
+};
 
-const MIXED_PATIENCE: u32 = 120;
+/// How units of several sizes are given up.
+const MIXED_PERSISTENCE: Persistence = Persistence {
+    patience: 60,
+    slack: 20,
+};
 
 /// The noise of a plan from nothing that units are given up of, in 1000ths.
 const NOISE: u64 = 50;
@@ -94,9 +103,6 @@ impl Flow {
             if self.only.is_some() && self.best.missing > 0 {
                 self.only = None;
             }
-            if self.only.is_none() {
-                self.go_to(Stage::Bound);
-            }
             return Ok(());
         }
         let values = Vec::from_slice(alloc, &worker.hints.cells)?;
@@ -106,15 +112,21 @@ impl Flow {
     }
 
     /// Begins a round of plans from nothing over several sizes.
-    fn begin_mixed_round(&mut self, alloc: Global, worker: &mut Worker) -> Result<(), AllocError> {
-        if self.round >= MIXED_ROUNDS || self.is_met(worker) {
-            self.go_to(Stage::Plans);
+    fn begin_mixed_round(
+        &mut self,
+        alloc: Global,
+        worker: &mut Worker,
+        next: Stage,
+    ) -> Result<(), AllocError> {
+        if self.round >= ROUNDS || self.is_met(worker) {
+            self.go_to(next);
             return Ok(());
         }
+        let is_priced = matches!(self.stage, Stage::Priced);
+        let noise = if self.round == 0 { 0 } else { ROUND_NOISE };
         let mut values = Vec::new(alloc);
         for (cells, priced) in worker.hints.cells.iter().zip(&worker.hints.priced) {
-            let value = if self.round & 1 == 0 { *cells } else { *priced };
-            let noise = if self.round < 2 { 0 } else { 30 };
+            let value = if is_priced { *priced } else { *cells };
             values.push(worker.dice.noisy(value, noise))?;
         }
         let greedy = Greedy::new(alloc, worker, &self.free, &values, WIDE_BEAM, 0)?;
@@ -178,7 +190,7 @@ impl Flow {
         };
         let made = Program::new(alloc, &worker.job, &sizes, left, &self.free, fillings)?;
         let Some(mut program) = made else {
-            self.end_plans();
+            self.go_to(Stage::Bound);
             return Ok(());
         };
         for plan in &self.plans {
@@ -217,12 +229,8 @@ impl Flow {
 
     /// Goes on behind the bound.
     pub(crate) fn end_bound(&mut self) {
-        let next = match (self.stage, self.only) {
-            (Stage::Fine, _) => Stage::More,
-            (_, Some(_)) => Stage::Priced,
-            (_, None) => Stage::Rounds,
-        };
-        self.go_to(next);
+        let is_fine = matches!(self.stage, Stage::Fine);
+        self.go_to(if is_fine { Stage::More } else { Stage::Priced });
     }
 
     /// Begins a dive.
@@ -265,12 +273,11 @@ impl Flow {
 
     /// Whether units are given up no more in this stage.
     pub(crate) fn is_enough(&self, worker: &Worker) -> bool {
-        let most = if matches!(self.stage, Stage::Gains) {
-            self.begun.saturating_add(FIRST_GAINS)
-        } else if self.only.is_some() {
-            MAX_FILLINGS
-        } else {
-            MIXED_FILLINGS
+        let most = match (self.stage, self.only) {
+            (Stage::Gains, Some(_)) => self.begun.saturating_add(FIRST_GAINS),
+            (Stage::Gains, None) => self.begun.saturating_add(MIXED_FIRST_GAINS),
+            (_, Some(_)) => MAX_FILLINGS,
+            (_, None) => MIXED_FILLINGS,
         };
         self.is_met(worker) || self.fillings >= most || self.attempts >= MAX_ATTEMPTS
     }
@@ -332,13 +339,22 @@ impl Flow {
         let mut units = cheapened(alloc, &worker.job, &from, &worths, most)?;
         self.limit(&mut units, &worker.job.order.limits);
         worker.count_work(2);
-        let patience = if self.only.is_some() {
-            PATIENCE
+        let persistence = if self.only.is_some() {
+            PERSISTENCE
         } else {
-            MIXED_PATIENCE
+            MIXED_PERSISTENCE
         };
         let rates = Vec::from_slice(alloc, &worker.hints.rates)?;
-        let next = GiveUp::new(alloc, worker, units, &worths, &rates, most, goal, patience)?;
+        let next = GiveUp::new(
+            alloc,
+            worker,
+            units,
+            &worths,
+            &rates,
+            most,
+            goal,
+            persistence,
+        )?;
         self.task = Task::GiveUp(next);
         Ok(())
     }
@@ -469,7 +485,7 @@ impl Flow {
         let worths = Vec::from_slice(alloc, &worker.hints.cells)?;
         let rates = Vec::from_slice(alloc, &worker.hints.rates)?;
         let most = units.cost;
-        let mut next = GiveUp::new(alloc, worker, units, &worths, &rates, most, 0, PATIENCE)?;
+        let mut next = GiveUp::new(alloc, worker, units, &worths, &rates, most, 0, PERSISTENCE)?;
         next.keep_sizes();
         self.task = Task::GiveUp(next);
         Ok(())
@@ -480,10 +496,11 @@ impl Flow {
         match (self.stage, self.only) {
             (Stage::Quick, _) => self.begin_quick(alloc, worker),
             (Stage::Rounds, Some(_)) => self.begin_round(alloc, worker, Stage::Plans),
-            (Stage::Rounds, None) => self.begin_mixed_round(alloc, worker),
+            (Stage::Rounds, None) => self.begin_mixed_round(alloc, worker, Stage::Plans),
             (Stage::Plans, _) => self.begin_plans(alloc, worker),
             (Stage::Bound | Stage::Fine, _) => self.begin_bound(alloc, worker),
-            (Stage::Priced, _) => self.begin_round(alloc, worker, Stage::Dive),
+            (Stage::Priced, Some(_)) => self.begin_round(alloc, worker, Stage::Dive),
+            (Stage::Priced, None) => self.begin_mixed_round(alloc, worker, Stage::Dive),
             (Stage::Dive, _) => self.begin_dive(alloc, worker),
             (Stage::Gains | Stage::More, _) => self.begin_gains(alloc, worker),
             (Stage::Packs, _) => self.begin_packs(alloc, worker),

@@ -82,18 +82,8 @@ impl Flow {
             self.plans.push(Rc::clone(plan)?)?;
         }
         self.program = Some(program);
-        self.end_plans();
+        self.go_to(Stage::Bound);
         Ok(Reported::Nothing)
-    }
-
-    /// Goes on behind the program of plans: to the bound, or over several sizes, where the bound is
-    /// known already, to a dive.
-    pub(crate) fn end_plans(&mut self) {
-        let next = match self.only {
-            Some(_) => Stage::Bound,
-            None => Stage::Dive,
-        };
-        self.go_to(next);
     }
 
     /// Ends a dive.
