@@ -1,8 +1,10 @@
 """How long a connection has: ten seconds for its request, and ten for its answer."""
 
+import resource
 import select
 import threading
 import time
+from contextlib import ExitStack
 
 from kit import crowds
 from kit.case import case
@@ -185,6 +187,49 @@ def read_late(trial):
         head, _, body = (came + read_all(it)).partition(b"\r\n\r\n")
     trial.holds(f"Content-Length: {len(wanted)}".encode() in head.split(b"\r\n"), head)
     trial.holds(body == wanted, f"{len(body)} of {len(wanted)} bytes came")
+
+
+# So many descriptors a shop has.
+SCARCE = 24
+
+
+def with_few_descriptors():
+    resource.setrlimit(resource.RLIMIT_NOFILE, (SCARCE, SCARCE))
+
+
+def whole_answer(connection):
+    """Reads an answer to its end, and returns how many bytes its body has and was to have."""
+    came = b""
+    while b"\r\n\r\n" not in came:
+        came += connection.recv(65536)
+    head, _, body = came.partition(b"\r\n\r\n")
+    length, count = int(head.split(b"Content-Length: ")[1].split(b"\r\n")[0]), len(body)
+    while count < length and (piece := connection.recv(1 << 20)):
+        count += len(piece)
+    return count, length
+
+
+@case(
+    "answers on their way and few descriptors",
+    "Where each connection that the descriptors allow has an answer of 8 MB on its way, none of them is closed for the next one. This "
+    "waits, and has its answer once one of the others was read.",
+)
+def answers_and_few(trial):
+    shop = long_rack(trial, prepare=with_few_descriptors)
+    with ExitStack() as stack:
+        held = []
+        for _ in range(SCARCE):
+            held.append(stack.enter_context(crowds.unread(shop, "/rack/GLASS", 1 << 16)))
+            if not select.select(held[-1:], [], [], 1)[0]:
+                break
+        *served, last = held
+        trial.holds(1 < len(served) < SCARCE - 1, f"{len(served)} connections are answered at once")
+        for it in served:
+            count, length = whole_answer(it)
+            trial.equal(count, length, "an answer is cut off")
+            trial.holds(select.select([last], [], [], 3)[0], "the next one has no answer")
+        count, length = whole_answer(last)
+        trial.equal(count, length, "the last answer is cut off")
 
 
 @case(
