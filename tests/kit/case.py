@@ -88,13 +88,13 @@ WITHOUT_WHY = b"  memory ran out; end other programs, or give this one more\n"
 def fault_in(errors):
     """The line of a fault on standard error: what stands there without a server's lines of itself, and without the one line
     that begins with two spaces, where exactly one stands behind another. A fault without it isn't one of these lines, nor is
-    one behind which want of memory is reported that is none itself."""
+    one behind which lack of memory is reported that is none itself."""
     lines = [it for it in errors.splitlines(keepends=True) if not it.startswith(OF_ITSELF)]
     output = b"".join(lines)
     if not lines or lines[0].startswith((b"fault order ", b"error: ")):
         return output
     if len(lines) == 2 and lines[1] == WITHOUT_WHY and lines[0] != b"fault memory\n":
-        return output + b"(and no want of memory before)"
+        return output + b"(and no lack of memory before)"
     if len(lines) == 2 and lines[1].startswith(b"  ") and lines[1].endswith(b"\n"):
         return lines[0]
     return output + b"(and no line that says why)"

@@ -1,5 +1,6 @@
 """Connections beside which terminals work: silent ones, slow ones, ones that go away, and many at once."""
 
+import resource
 import socket
 import struct
 import threading
@@ -11,6 +12,11 @@ from kit.shop import request_of
 from kit.yards import Yard, question
 
 QUESTION = '{"ask":"materials"}'
+
+
+def few_descriptors(count):
+    """What a shop has to `prepare` so that it has only so many descriptors."""
+    return lambda: resource.setrlimit(resource.RLIMIT_NOFILE, (count, count))
 
 
 @contextmanager

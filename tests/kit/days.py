@@ -63,7 +63,7 @@ def whole(day):
 
 
 def asked(shop, question):
-    """The answer to a question; one that was refused for want of memory, or got none, is asked again."""
+    """The answer to a question; one that was refused for lack of memory, or got none, is asked again."""
     try:
         answer = shop.reply(question)
     except OSError:

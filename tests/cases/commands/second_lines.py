@@ -267,7 +267,7 @@ SYSTEM = {
 
 @case(
     "what the system says of a store and a folder of backups",
-    "Where a store, or a folder's first try of a backup, can't be made, a disk that is read-only or full, a quota, a want of rights and "
+    "Where a store, or a folder's first try of a backup, can't be made, a disk that is read-only or full, a quota, lack of rights and "
     "any other fault are told apart.",
 )
 def system_errors(trial):

@@ -1,4 +1,4 @@
-"""What the source itself shows: where a want of memory and a failed store are reported, and which constants a law names."""
+"""What the source itself shows: where lack of memory and a failed store are reported, and which constants a law names."""
 
 import glob
 import re
@@ -8,13 +8,13 @@ from functools import cache
 from kit.case import Failed, case
 from kit.sources import TOP, closing, sources
 
-# A want of memory, by any of its names.
+# Lack of memory, by any of its names.
 NAMED = re.compile(r"\b(?:NoMemory|AllocError|OutOfMemory|is_memory)\b")
 
-# Calls of std and of ported crates whose only Err is a want of memory.
+# Calls of std and of ported crates whose only Err is lack of memory.
 OF_STD = {"push", "extend_from_slice", "Vec::with_capacity", "Vec::from_slice", "Box::new"}
 
-# Places that report a want of memory otherwise than as the Err of a call that has no other, or as what another value names;
+# Places that report lack of memory otherwise than as the Err of a call that has no other, or as what another value names;
 # and why there is one behind it.
 LISTED = {
     "cut_order/src/answer.rt want_of_memory": "the check of units that are a plan of the order, whose only fault then is this one, by its contract",
@@ -24,23 +24,23 @@ LISTED = {
     "shop_desk/src/history.rt reported_last": "4294967295 entries were read, and no memory holds so many",
     "shop_desk/src/nodes.rt row_of_step": "a job's row under a number that no job has, which no history makes",
     "shop_files/src/orders.rt next_row": "a record of a slice, of any length: the reader has no other error",
-    "shop_forms/src/writing.rt value_of": "a text that was written by the port's own writer: it is read but for want of memory",
+    "shop_forms/src/writing.rt value_of": "a text that was written by the port's own writer: only lack of memory keeps it from being read",
     "shop_opening/src/apart.rt apart_fault": "files in memory, whose writes fail for nothing else",
     "shop_opening/src/before.rt given": "the same",
     "shop_opening/src/before.rt memory_of": "the same",
     "shop_planning/src/task.rt want_of_memory": "a search for what was judged before, whose only fault then is this one, by its contract",
-    "shop_request/src/routes.rt new": "the router takes the routes, which are constants, but for want of memory",
+    "shop_request/src/routes.rt new": "only lack of memory keeps the router from taking the routes, which are constants",
     "shop_rows/src/part_rows.rt reserve": "a number of origins of 32 bits: acts end at 2147483647, and each begins one at most",
     "shop_serve/src/answers.rt note_want": "what the watch told of a backup is asked for, to be noted",
     "shop_serve/src/clients.rt ask": "there is no answer where memory is wanting for it",
     "shop_store/src/entries.rt find_trail": "more steps than there are entries",
     "shop_store/src/uses.rt list_uses": "more steps than there are rows",
-    "shop_store/src/ledger_book.rt out_of_range": "a number, a sum or two lines of an order that no history makes, over a storage whose only fault is want of memory, by its contract",
+    "shop_store/src/ledger_book.rt out_of_range": "a number, a sum or two lines of an order that no history makes, over a storage whose only fault is lack of memory, by its contract",
     "shop_store/src/stories.rt scan": "more steps than there are entries",
-    "shop_store/src/loading_parts.rt stopped": "the loader of parts says whether it stopped for want of memory",
+    "shop_store/src/loading_parts.rt stopped": "the loader of parts says whether it stopped for lack of memory",
     "shop_text/src/yields.rt report_text": "the taker of a report's lines stops where its text has no room",
-    "shop_wire/src/serving.rt write_made": "the text is handed over as it was made, or the want of memory",
-    "shop_wire/src/response.rt plans_refused": "the server asks for it where the text of an answer, or the answer of it, isn't made for want of memory",
+    "shop_wire/src/serving.rt write_made": "the text is handed over as it was made, or the lack of memory",
+    "shop_wire/src/response.rt plans_refused": "the server asks for it where the text of an answer, or the answer of it, isn't made because memory ran out",
 }
 
 
@@ -63,7 +63,7 @@ def named(code):
 
 @cache
 def wanting():
-    """The names of functions of each crate, those of types without them too: whether their only Err is a want of memory."""
+    """The names of functions of each crate, those of types without them too: whether their only Err is lack of memory."""
     known = {}
     for path, code in sources().items():
         for name, head in named(code):
@@ -96,7 +96,7 @@ def flat(text):
 
 
 def is_wanting(call, crate):
-    """Whether the Err of what an expression calls last is a want of memory and nothing else: of that crate's own function of
+    """Whether the Err of what an expression calls last is lack of memory and nothing else: of that crate's own function of
     this name, or else of all crates' functions of it."""
     while (bare := re.sub(r"\([^()]*\)", "", call)) != call:
         call = bare
@@ -112,7 +112,7 @@ def is_alone(expression):
 
 
 def is_behind(body, at, crate):
-    """Whether what is reported at a place is the want of memory of something else: that of a pattern or a condition around it, or
+    """Whether what is reported at a place is the lack of memory of something else: that of a pattern or a condition around it, or
     the Err of a call that has no other; and of nothing beside it."""
     for before, within in around(body, at):
         matched, arms = re.search(r"\bmatch\b(.*)", before, re.DOTALL), within.rpartition("=>")
@@ -133,7 +133,7 @@ def is_behind(body, at, crate):
 
 
 def reports():
-    """The places that report a want of memory: the file with the function, and whether there is another one behind it."""
+    """The places that report lack of memory: the file with the function, and whether the rule takes the report."""
     for path, code in sources().items():
         if re.search(r"\b(?:const|static)\s+\w+\s*:[^;{]*=[^;{]*\b(?:NoMemory|AllocError)\b|\b(?:NoMemory|AllocError)\s+as\b", code):
             yield f"{path}, by another name", False
@@ -149,10 +149,10 @@ def reports():
 
 
 @case(
-    "want of memory is never made",
-    "In the source of the crates a want of memory is reported where another one is named, or where a call fails that fails for "
-    "nothing else, and nothing else stands in the condition or the pattern; other places are those of a list, with their reasons, "
-    "and each of these is there.",
+    "lack of memory is never invented",
+    "The source of the crates reports lack of memory only behind another report of it, or behind a call that fails for nothing else, "
+    "and nothing else stands in the condition or the pattern. A list has the other places with their reasons, and each of them is "
+    "there.",
 )
 def never_made(trial):
     output = list(reports())
@@ -160,7 +160,7 @@ def never_made(trial):
     trial.equal(sorted(place for place, is_behind in output if not is_behind), sorted(LISTED))
 
 
-# Bodies that report a want of memory, and whether there is one behind it.
+# Bodies that report lack of memory, and whether the rule takes the report.
 TELLING = (
     ("if list.push(row).is_err() { return Err(F::NoMemory); }", True),
     ("if is_full || list.push(row).is_err() { return Err(F::NoMemory); }", False),
@@ -188,9 +188,9 @@ TELLING = (
 
 
 @case(
-    "wrong tellings of a want of memory",
-    "The rule over the source takes a want of memory behind a condition, a pattern or a call that is one alone, and refuses it where "
-    "more stands in the condition or the pattern, or the call fails for something else, in bodies made by hand.",
+    "wrong reports of lack of memory",
+    "In bodies made by hand, the rule over the source takes a report of lack of memory behind a condition, a pattern or a call that "
+    "stands for nothing else, and refuses it if more stands in the condition or the pattern, or the call fails for something else.",
 )
 def wrong_reports(trial):
     for body, is_right in TELLING:
@@ -198,13 +198,13 @@ def wrong_reports(trial):
         trial.equal(is_behind(body, body.index(output), "shop_files"), is_right, body)
 
 
-# Takers whose stop is reported as a want of memory, by the file in which each stands.
+# Takers whose stop is reported as lack of memory, by the file in which each stands.
 TAKERS = ("shop_desk/src/racks.rt", "shop_text/src/yields.rt")
 
 
 @case(
-    "takers stop for want of memory alone",
-    "A taker of parts whose stop is reported as a want of memory stops where a call fails that fails for nothing else, and an answer "
+    "takers stop for lack of memory alone",
+    "A taker of parts whose stop is reported as lack of memory stops only if a call fails that fails for nothing else, and an answer "
     "that isn't made is one whose making failed.",
 )
 def takers(trial):
@@ -286,7 +286,7 @@ FAULTED = {
 
 def failures():
     """The places that report a failed store or another version where none is handed on by its name: the file with the function and
-    the fault, and whether an Err of any kind is reported so that may be a want of memory."""
+    the fault, and whether an Err of any kind is reported so that may be lack of memory."""
     for path, code in sources().items():
         if re.search(r"\b(?:TableFault|AdoptFault|BookFault|Refusal|Store|StoreFault|WrongVersion)\s+as\b", code):
             yield f"{path}, by another name", False
@@ -304,9 +304,9 @@ def failures():
 
 
 @case(
-    "a failed store is never made",
-    "In the source of the crates a failed store, or tables of another version, is reported where one is handed on, and at the places of "
-    "a list, each so often as it says; none of them takes any Err for it that may be a want of memory.",
+    "a failed store is never invented",
+    "The source of the crates reports a failed store, or tables of another version, only where it hands one on, and at the places of a "
+    "list, each as often as the list says. None of them takes for it an Err that may be lack of memory.",
 )
 def never_failed(trial):
     output = list(failures())

@@ -1,6 +1,5 @@
 """How long a connection has: ten seconds for its request, and ten for its answer."""
 
-import resource
 import select
 import threading
 import time
@@ -193,10 +192,6 @@ def read_late(trial):
 SCARCE = 24
 
 
-def with_few_descriptors():
-    resource.setrlimit(resource.RLIMIT_NOFILE, (SCARCE, SCARCE))
-
-
 def whole_answer(connection):
     """Reads an answer to its end, and returns how many bytes its body has and was to have."""
     came = b""
@@ -215,7 +210,7 @@ def whole_answer(connection):
     "waits, and has its answer once one of the others was read.",
 )
 def answers_and_few(trial):
-    shop = long_rack(trial, prepare=with_few_descriptors)
+    shop = long_rack(trial, prepare=crowds.few_descriptors(SCARCE))
     with ExitStack() as stack:
         held = []
         for _ in range(SCARCE):

@@ -1,7 +1,6 @@
 """Connections that hold up nobody: silent ones, slow ones, ones that go away, and many at once."""
 
 import os
-import resource
 import time
 from contextlib import suppress
 
@@ -58,10 +57,6 @@ def half(trial):
 SCARCE = 60
 
 
-def with_few_descriptors():
-    resource.setrlimit(resource.RLIMIT_NOFILE, (SCARCE, SCARCE))
-
-
 @case(
     "silent connections and few descriptors",
     "Where silent connections take all descriptors the oldest are closed, and a terminal has its 200 answers at once; the youngest "
@@ -69,7 +64,7 @@ def with_few_descriptors():
 )
 def silent_and_few(trial):
     os.mkdir(trial.path("backups"))
-    shop = trial.shop(prepare=with_few_descriptors, words=("--backup", "backups"))
+    shop = trial.shop(prepare=crowds.few_descriptors(SCARCE), words=("--backup", "backups"))
     with crowds.silent(shop, 2 * SCARCE) as held:
         for _ in range(200):
             begin = time.monotonic()
