@@ -2,7 +2,7 @@ use Rattle.std.proofs.Common.{ap}
 use Rattle.shop_records.specs.declared.messages.Reply.TheVariants.{Rack}
 use Rattle.shop_records.specs.Content.{parts_of}
 use Rattle.shop_desk.proofs.TakenParts.{rack_taken}
-use Rattle.shop_desk.proofs.desk_calls.known_rack.Goals as goal
+use Rattle.shop_desk.proofs.asking.known_rack.Goals as goal
 
 pub returns-in-Ok-true-clause-answer : goal.returns-in-Ok-true-clause-answer
 returns-in-Ok-true-clause-answer g c =
