@@ -113,12 +113,7 @@ module _ {K X : Type 0} (cmp : K → K → Ordering) where
 -- no total is over what may be received
 pub column_within : (content : Content) → IsInRange content → (code : List ℕ) (column : Column) → cells_in column code (values content.parts) ≤ 1000000000000000
 column_within content range code column.Received = range.received code
-column_within content range code column.Stock = let r = range.received code in let a = range.adds_up code in omega arith
-column_within content range code column.Rack = let r = range.received code in let a = range.adds_up code in omega arith
-column_within content range code column.Pieces = let r = range.received code in let a = range.adds_up code in omega arith
-column_within content range code column.Kerf = let r = range.received code in let a = range.adds_up code in omega arith
-column_within content range code column.Scrap = let r = range.received code in let a = range.adds_up code in omega arith
-column_within content range code column.Returned = let r = range.received code in let a = range.adds_up code in omega arith
+column_within content range code _ = let r = range.received code in let a = range.adds_up code in omega arith
 
 -- ---- a change
 

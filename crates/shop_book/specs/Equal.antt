@@ -1,6 +1,6 @@
 -- When two contents are the same.
 use Rattle.std.specs.Prelude.{◌≡◌, Bool, true, false, ◌&&◌, ◌==◌, nat_eq}
-use Rattle.std.specs.Prelude.{T, ℕ, refl, List, Option, Some, None, cond, get_or}
+use Rattle.std.specs.Prelude.{T, refl, Option, Some, None}
 use Rattle.std.specs.Option.{option_eq}
 use Rattle.std.proofs.Common.{ap, sym, subst, ◌∙◌}
 use Rattle.std.specs.Bool.{Decides}
@@ -49,7 +49,7 @@ use Rattle.shop_records.specs.contracts.imports.ImportRowPartialEq.TheImpl as im
 use Rattle.shop_records.specs.Journal.{word_name}
 use Rattle.shop_records.specs.declared.journal.Entry.{Entry}
 use Rattle.shop_records.specs.declared.journal.Word.{Word}
-use Rattle.shop_records.specs.declared.journal.Word.TheVariants as word
+use Rattle.shop_records.proofs.WordNames.{one_word}
 use Rattle.shop_rows.specs.Keys.{codes_exact}
 use Rattle.shop_rows.specs.SameParts.{name_decides, part_decides, same_part, size_decides}
 
@@ -164,37 +164,15 @@ same_job_state = job_state_eq.ghosts.eq
 
 one_job_state : (a b : JobState) → same_job_state a b ≡ true → a ≡ b
 one_job_state job_state.Waiting job_state.Waiting e = refl
-one_job_state job_state.Waiting job_state.Done e = no e
-one_job_state job_state.Waiting job_state.Broken e = no e
-one_job_state job_state.Waiting job_state.Released e = no e
-one_job_state job_state.Waiting job_state.Undone e = no e
-one_job_state job_state.Done job_state.Waiting e = no e
 one_job_state job_state.Done job_state.Done e = refl
-one_job_state job_state.Done job_state.Broken e = no e
-one_job_state job_state.Done job_state.Released e = no e
-one_job_state job_state.Done job_state.Undone e = no e
-one_job_state job_state.Broken job_state.Waiting e = no e
-one_job_state job_state.Broken job_state.Done e = no e
 one_job_state job_state.Broken job_state.Broken e = refl
-one_job_state job_state.Broken job_state.Released e = no e
-one_job_state job_state.Broken job_state.Undone e = no e
-one_job_state job_state.Released job_state.Waiting e = no e
-one_job_state job_state.Released job_state.Done e = no e
-one_job_state job_state.Released job_state.Broken e = no e
 one_job_state job_state.Released job_state.Released e = refl
-one_job_state job_state.Released job_state.Undone e = no e
-one_job_state job_state.Undone job_state.Waiting e = no e
-one_job_state job_state.Undone job_state.Done e = no e
-one_job_state job_state.Undone job_state.Broken e = no e
-one_job_state job_state.Undone job_state.Released e = no e
 one_job_state job_state.Undone job_state.Undone e = refl
+one_job_state _ _ e = no e
 
 own_job_state : (a : JobState) → same_job_state a a ≡ true
 own_job_state job_state.Waiting = refl
-own_job_state job_state.Done = refl
-own_job_state job_state.Broken = refl
-own_job_state job_state.Released = refl
-own_job_state job_state.Undone = refl
+own_job_state _ = refl
 
 job_state_decides : (a b : JobState) → Decides (same_job_state a b) (a ≡ b)
 job_state_decides a b = (one_job_state a b, λ e. subst (λ k. same_job_state a k ≡ true) e (own_job_state a))
@@ -274,43 +252,8 @@ import_decides a b =
     Decides-like _ (λ p i. record { order = p.0 i; form = p.1.0 i; text = p.1.1.0 i; reply = p.1.1.1 i }) (λ p. (ap (λ r. r.order) p, (ap (λ r. r.form) p, (ap (λ r. r.text) p, ap (λ r. r.reply) p))))
     (Decides-and _ _ (bytes_decides a.order b.order) (Decides-and _ _ (form_decides a.form b.form) (Decides-and _ _ (bytes_decides a.text b.text) (bytes_decides a.reply b.reply))))
 
--- the word of a name: its first letter decides it, or its second or third
-word_back : List ℕ → Word
-word_back name =
-    let first = get_or name 0 0 in
-    let third = get_or name 2 0 in
-    cond (nat_eq first 109) word.Material
-    (cond (nat_eq first 111) word.Order
-    (cond (nat_eq first 100) word.Done
-    (cond (nat_eq first 98) (cond (nat_eq (get_or name 1 0) 114) word.Break word.Begin)
-    (cond (nat_eq first 105) word.Import
-    (cond (nat_eq first 97) word.Amend
-    (cond (nat_eq first 117) word.Undo
-    (cond (nat_eq first 110) word.Note
-    (cond (nat_eq first 101) word.Extend
-    (cond (nat_eq (get_or name 1 0) 99) word.Scrap
-    (cond (nat_eq third 99) word.Receive (cond (nat_eq third 115) word.Reserve (cond (nat_eq third 108) word.Release word.Return))))))))))))
-
-back_again : (w : Word) → word_back (word_name w) ≡ w
-unfolding word_back
-back_again word.Material = refl
-back_again word.Receive = refl
-back_again word.Order = refl
-back_again word.Reserve = refl
-back_again word.Done = refl
-back_again word.Break = refl
-back_again word.Release = refl
-back_again word.Scrap = refl
-back_again word.Return = refl
-back_again word.Import = refl
-back_again word.Amend = refl
-back_again word.Undo = refl
-back_again word.Note = refl
-back_again word.Extend = refl
-back_again word.Begin = refl
-
 words_decide : (v w : Word) → Decides (same_word v w) (v ≡ w)
-words_decide v w = Decides-like _ (λ e. sym (back_again v) ∙ ap word_back e ∙ back_again w) (ap word_name) (bytes_decides (word_name v) (word_name w))
+words_decide v w = Decides-like _ (one_word v w) (ap word_name) (bytes_decides (word_name v) (word_name w))
 
 options_decide : {X : Type 0} {E : X → X → Bool} → ((a b : X) → Decides (E a b) (a ≡ b)) → (c d : Option X) → Decides (option_eq E c d) (c ≡ d)
 options_decide each None None = (λ e. refl, λ e. refl)

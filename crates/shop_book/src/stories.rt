@@ -72,69 +72,21 @@ fn is_on_in(jobs: &[Job], number: u32, name: PartName) -> bool
 fn makes_units(word: Word) -> bool
     ensures { result ≡ makes_units word }
 {
-    match word {
-        Word::Material => false,
-        Word::Receive => true,
-        Word::Order => false,
-        Word::Reserve => false,
-        Word::Done => false,
-        Word::Break => false,
-        Word::Release => false,
-        Word::Scrap => false,
-        Word::Return => false,
-        Word::Import => true,
-        Word::Amend => false,
-        Word::Undo => false,
-        Word::Note => false,
-        Word::Extend => false,
-        Word::Begin => false,
-    }
+    matches!(word, Word::Receive | Word::Import)
 }
 
 /// Whether messages of a word make the parts of a job.
 pub(crate) fn ends_job(word: Word) -> bool
     ensures { result ≡ ends_job word }
 {
-    match word {
-        Word::Material => false,
-        Word::Receive => false,
-        Word::Order => false,
-        Word::Reserve => false,
-        Word::Done => true,
-        Word::Break => true,
-        Word::Release => false,
-        Word::Scrap => false,
-        Word::Return => false,
-        Word::Import => false,
-        Word::Amend => false,
-        Word::Undo => false,
-        Word::Note => false,
-        Word::Extend => false,
-        Word::Begin => false,
-    }
+    matches!(word, Word::Done | Word::Break)
 }
 
 // Whether messages of a word take the parts of a job back.
 fn undoes_job(word: Word) -> bool
     ensures { result ≡ undoes_job word }
 {
-    match word {
-        Word::Material => false,
-        Word::Receive => false,
-        Word::Order => false,
-        Word::Reserve => false,
-        Word::Done => false,
-        Word::Break => false,
-        Word::Release => false,
-        Word::Scrap => false,
-        Word::Return => false,
-        Word::Import => false,
-        Word::Amend => false,
-        Word::Undo => true,
-        Word::Note => false,
-        Word::Extend => false,
-        Word::Begin => false,
-    }
+    matches!(word, Word::Undo)
 }
 
 // Whether an entry's message made a part, or took it back.

@@ -29,163 +29,51 @@ use Rattle.shop_commands.specs.Advice.{IsPlain, IsAdviceOf, FollowsFault, IsSeco
 
 of_file : (c : FileCause) → IsPlain (file_text c)
 of_file file.Missing = refl
-of_file file.Folder = refl
-of_file file.NotAllowed = refl
-of_file file.Long = refl
-of_file file.NoText = refl
-of_file file.Unreadable = refl
+of_file _ = refl
 
 of_store : (c : StoreCause) → IsPlain (store_text c)
 of_store store.NoFolder = refl
-of_store store.Folder = refl
-of_store store.NotAllowed = refl
-of_store store.ReadOnly = refl
-of_store store.InUse = refl
-of_store store.Journal = refl
-of_store store.NotPlain = refl
-of_store store.Missing = refl
-of_store store.DanglingLink = refl
-of_store store.NoLog = refl
-of_store store.LoneLog = refl
-of_store store.DamagedLog = refl
-of_store store.OtherForm = refl
-of_store store.Bound = refl
-of_store store.NoDatabase = refl
-of_store store.Damaged = refl
-of_store store.Full = refl
-of_store store.Moved = refl
-of_store store.Before = refl
-of_store store.Failed = refl
+of_store _ = refl
 
 of_version : (c : VersionCause) → IsPlain (version_text c)
 of_version version.Newer = refl
-of_version version.Foreign = refl
-of_version version.Contradicting = refl
-of_version (version.Row row) = refl
+of_version _ = refl
 
 of_backup : (c : BackupCause) → IsPlain (backup_text c)
 of_backup backup.NoFolder = refl
-of_backup backup.Other = refl
-of_backup backup.NotAllowed = refl
-of_backup backup.ReadOnly = refl
-of_backup backup.Full = refl
-of_backup backup.Open = refl
-of_backup backup.Another = refl
-of_backup backup.NoNumber = refl
-of_backup backup.Moved = refl
-of_backup backup.Unread = refl
-of_backup backup.NoBackup = refl
-of_backup backup.Failed = refl
+of_backup _ = refl
 
 of_shop : (c : ShopCause) → IsPlain (shop_text c)
 of_shop shop.Long = refl
-of_shop shop.NoText = refl
-of_shop shop.NoDocument = refl
-of_shop shop.OtherKey = refl
-of_shop shop.NoList = refl
-of_shop shop.Many = refl
-of_shop shop.NoTable = refl
-of_shop shop.UnknownKey = refl
-of_shop shop.MissingKey = refl
-of_shop shop.Code = refl
-of_shop shop.Kind = refl
-of_shop shop.Length = refl
-of_shop shop.Changed = refl
+of_shop _ = refl
 
 of_problem : (c : TextCause) → IsPlain (problem_text c)
 of_problem text.Long = refl
-of_problem text.Byte = refl
-of_problem text.Number = refl
-of_problem text.Short = refl
-of_problem text.NoMemory = refl
+of_problem _ = refl
 
 of_port : (c : PortCause) → IsPlain (port_text c)
 of_port port.InUse = refl
-of_port port.NotAllowed = refl
-of_port port.Refused = refl
-of_port port.NoRun = refl
+of_port _ = refl
 
 of_refusal : (c : Refusal) → IsPlain (refused_text c)
 of_refusal refusal.BadMessage = refl
-of_refusal refusal.NumberReused = refl
-of_refusal refusal.NoMaterial = refl
-of_refusal refusal.MaterialExists = refl
-of_refusal refusal.BadMaterial = refl
-of_refusal refusal.BadSize = refl
-of_refusal refusal.BadCount = refl
-of_refusal refusal.TooMuch = refl
-of_refusal refusal.NumbersSpent = refl
-of_refusal refusal.OrderExists = refl
-of_refusal refusal.BadLine = refl
-of_refusal refusal.NoDemand = refl
-of_refusal refusal.NoOrder = refl
-of_refusal refusal.BadNote = refl
-of_refusal refusal.NoPart = refl
-of_refusal refusal.NotStanding = refl
-of_refusal refusal.NotWhole = refl
-of_refusal refusal.BadTree = refl
-of_refusal refusal.WrongMaterial = refl
-of_refusal refusal.WrongSize = refl
-of_refusal refusal.TooMany = refl
-of_refusal refusal.NoJob = refl
-of_refusal refusal.JobOver = refl
-of_refusal refusal.BadCut = refl
-of_refusal refusal.NotOver = refl
-of_refusal refusal.PartsMoved = refl
-of_refusal refusal.BadText = refl
-of_refusal refusal.NothingFits = refl
-of_refusal refusal.TableTooLarge = refl
-of_refusal refusal.BadStep = refl
-of_refusal refusal.BadWant = refl
-of_refusal refusal.NoMemory = refl
-of_refusal refusal.StoreFault = refl
+of_refusal _ = refl
 
 of_cause : (c : Cause) → IsPlain (cause_text c)
 of_cause (cause.File c) = of_file c
 of_cause (cause.Problem c) = of_problem c
 of_cause (cause.Shop c) = of_shop c
 of_cause (cause.Refused r) = of_refusal r
-of_cause cause.Whole = refl
-of_cause cause.LongBar = refl
-of_cause cause.Steps = refl
-of_cause cause.Size = refl
-of_cause cause.NoFit = refl
-of_cause cause.Lines = refl
-of_cause cause.Made = refl
 of_cause (cause.Store c) = of_store c
 of_cause (cause.Version c) = of_version c
 of_cause (cause.Port c) = of_port c
 of_cause (cause.Backup c) = of_backup c
-of_cause cause.Memory = refl
-of_cause cause.Input = refl
-of_cause cause.Output = refl
-of_cause cause.Before = refl
-of_cause cause.Reply = refl
-of_cause cause.Row = refl
+of_cause _ = refl
 
 -- nor has what stands before it
 of_joint : (c : Cause) → IsPlain (joint c)
 of_joint cause.Before = refl
-of_joint (cause.File c) = refl
-of_joint (cause.Problem c) = refl
-of_joint (cause.Shop c) = refl
-of_joint (cause.Refused r) = refl
-of_joint cause.Whole = refl
-of_joint cause.LongBar = refl
-of_joint cause.Steps = refl
-of_joint cause.Size = refl
-of_joint cause.NoFit = refl
-of_joint cause.Lines = refl
-of_joint cause.Made = refl
-of_joint (cause.Store c) = refl
-of_joint (cause.Version c) = refl
-of_joint (cause.Port c) = refl
-of_joint (cause.Backup c) = refl
-of_joint cause.Memory = refl
-of_joint cause.Input = refl
-of_joint cause.Output = refl
-of_joint cause.Reply = refl
-of_joint cause.Row = refl
+of_joint _ = refl
 
 -- ---- the line
 

@@ -12,27 +12,13 @@ use Rattle.shop_commands.specs.Advice.{FitsFault, HelpsStep, IsAdviceOf, IsOf, I
 
 -- what helps where a step is refused fits such a refusal
 helps : (r : Refusal) (c : Cause) → IsOfStep r → HelpsStep c → FitsFault (Refused r) c
-helps r (cause.File c) of no_help = absurd no_help
-helps r (cause.Problem c) of no_help = absurd no_help
-helps r (cause.Shop c) of no_help = absurd no_help
-helps r (cause.Refused s) of no_help = absurd no_help
 helps r cause.Whole of help = of
 helps r cause.LongBar of help = of
 helps r cause.Steps of help = of
-helps r cause.Size of no_help = absurd no_help
-helps r cause.NoFit of no_help = absurd no_help
-helps r cause.Lines of no_help = absurd no_help
-helps r cause.Made of no_help = absurd no_help
-helps r (cause.Store c) of no_help = absurd no_help
-helps r (cause.Version c) of no_help = absurd no_help
-helps r (cause.Port c) of no_help = absurd no_help
-helps r (cause.Backup c) of no_help = absurd no_help
-helps r cause.Memory of no_help = absurd no_help
-helps r cause.Input of no_help = absurd no_help
-helps r cause.Output of no_help = absurd no_help
 helps r cause.Before of no_help = elim no_help [ ]
 helps r cause.Reply of no_help = elim no_help [ ]
 helps r cause.Row of no_help = elim no_help [ ]
+helps r _ of no_help = absurd no_help
 
 step_help : (r : Refusal) (found : Option Advice) → IsOfStep r → IfSome found IsStepHelp → IfSome found (IsAdviceOf (Refused r))
 step_help r None of is = tt

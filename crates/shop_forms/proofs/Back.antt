@@ -263,26 +263,7 @@ reply_back (reply.Note order) h = ap (option_map reply.Note) (code_there (codes 
 reply_back (reply.Extend count first order) h =
     read_extend_reply (reply_data (reply.Extend count first order)) count first order refl refl refl h
 reply_back (reply.Begin before job) h = read_begin_reply (reply_data (reply.Begin before job)) before job refl refl h
-reply_back (reply.Totals material received stock rack pieces kerf scrap returned) h = absurd h
-reply_back (reply.Rack material parts) h = absurd h
-reply_back (reply.Trace batch h of part root state w x y) made = absurd made
-reply_back (reply.Demand demand line made material order reserved wanted) h = absurd h
-reply_back (reply.Plan ceiling dropped tree worth) h = absurd h
-reply_back (reply.Bound best units) h = absurd h
-reply_back (reply.Materials materials) made = absurd made
-reply_back (reply.Parts material more parts) made = absurd made
-reply_back (reply.Demands demands more) made = absurd made
-reply_back (reply.Jobs jobs more) made = absurd made
-reply_back (reply.Job begun cuts h job kerf material part state tree w) made = absurd made
-reply_back (reply.Terminal last terminal) made = absurd made
-reply_back (reply.Orders more orders) made = absurd made
-reply_back (reply.Lines lines order) made = absurd made
-reply_back (reply.Shop began entries last) made = absurd made
-reply_back (reply.History entries more) made = absurd made
-reply_back (reply.Story entries more) made = absurd made
-reply_back (reply.Pieces more pieces) made = absurd made
-reply_back (reply.Steps job kerf material part state steps) made = absurd made
-reply_back (reply.Refused refusal) h = absurd h
+reply_back _ made = absurd made
 
 -- ---- texts
 
@@ -296,21 +277,6 @@ message_text_read message h = read_readable (message_data message) (message_read
 
 -- a reply is read back from its text
 pub reply_read : (answer : Reply) → HasWideNumbers answer → read (compact_text (reply_data answer)) ≡ Some (reply_data answer)
-reply_read (reply.AddMaterial material) wide_ones = read_readable _ (made_readable (reply.AddMaterial material) wide_ones)
-reply_read (reply.Receive act count) wide_ones = read_readable _ (made_readable (reply.Receive act count) wide_ones)
-reply_read (reply.AddOrder count first order) wide_ones = read_readable _ (made_readable (reply.AddOrder count first order) wide_ones)
-reply_read (reply.Reserve cuts job) wide_ones = read_readable _ (made_readable (reply.Reserve cuts job) wide_ones)
-reply_read (reply.Done job kerf pieces rack scrap) wide_ones = read_readable _ (made_readable (reply.Done job kerf pieces rack scrap) wide_ones)
-reply_read (reply.Break job kerf pieces rack scrap) wide_ones = read_readable _ (made_readable (reply.Break job kerf pieces rack scrap) wide_ones)
-reply_read (reply.Release job) wide_ones = read_readable _ (made_readable (reply.Release job) wide_ones)
-reply_read (reply.Scrap part) wide_ones = read_readable _ (made_readable (reply.Scrap part) wide_ones)
-reply_read (reply.GiveBack part) wide_ones = read_readable _ (made_readable (reply.GiveBack part) wide_ones)
-reply_read (reply.Import act count first order) wide_ones = read_readable _ (made_readable (reply.Import act count first order) wide_ones)
-reply_read (reply.Amend demand wanted) wide_ones = read_readable _ (made_readable (reply.Amend demand wanted) wide_ones)
-reply_read (reply.Undo job part) wide_ones = read_readable _ (made_readable (reply.Undo job part) wide_ones)
-reply_read (reply.Note order) wide_ones = read_readable _ (made_readable (reply.Note order) wide_ones)
-reply_read (reply.Extend count first order) wide_ones = read_readable _ (made_readable (reply.Extend count first order) wide_ones)
-reply_read (reply.Begin before job) wide_ones = read_readable _ (made_readable (reply.Begin before job) wide_ones)
 reply_read (reply.Totals material received stock rack pieces kerf scrap returned) wide_ones =
     read-compact (reply_data (reply.Totals material received stock rack pieces kerf scrap returned)) (IsNumber-decimal kerf wide_ones.0, (tt, (tt, (IsNumber-decimal pieces wide_ones.1, (IsNumber-decimal rack wide_ones.2, (IsNumber-decimal received wide_ones.3, (IsNumber-decimal returned wide_ones.4, (IsNumber-decimal scrap wide_ones.5, (IsNumber-decimal stock wide_ones.6, tt))))))))) (omega arith) (rw (number_of-decimal kerf wide_ones.0, number_of-decimal pieces wide_ones.1, number_of-decimal rack wide_ones.2, number_of-decimal received wide_ones.3, number_of-decimal returned wide_ones.4, number_of-decimal scrap wide_ones.5, number_of-decimal stock wide_ones.6) refl)
 reply_read (reply.Rack material parts) wide_ones =
@@ -351,6 +317,7 @@ reply_read (reply.Steps job kerf material part state steps) wide_ones =
     read-compact (reply_data (reply.Steps job kerf material part state steps)) (IsNumber-decimal job wide_ones.0, (IsNumber-decimal kerf wide_ones.1, (tt, (tt, (tt, (tt, (steps_numbers steps wide_ones.2, tt))))))) (shallow_seventh _ (steps_shallow steps)) (rw (number_of-decimal job wide_ones.0, number_of-decimal kerf wide_ones.1, steps_json steps wide_ones.2) refl)
 reply_read (reply.Refused refusal) wide_ones =
     read-compact (reply_data (reply.Refused refusal)) (tt, (IsNumber-decimal (refusal_number refusal) wide_ones, tt)) (omega arith) (rw (number_of-decimal (refusal_number refusal) wide_ones) refl)
+reply_read answer wide_ones = read_readable _ (made_readable answer wide_ones)
 
 -- a reply that an accepted message can get is one
 made_wide : (answer : Reply) → IsMade answer → HasWideNumbers answer
@@ -369,26 +336,7 @@ made_wide (reply.Undo job part) h = wide job h.0
 made_wide (reply.Note order) h = tt
 made_wide (reply.Extend count first order) h = (wide count h.0, wide first h.1)
 made_wide (reply.Begin before job) h = (wide before h.0, wide job h.1)
-made_wide (reply.Totals material received stock rack pieces kerf scrap returned) h = absurd h
-made_wide (reply.Rack material parts) h = absurd h
-made_wide (reply.Trace batch h of part root state w x y) made = absurd made
-made_wide (reply.Demand demand line made material order reserved wanted) h = absurd h
-made_wide (reply.Plan ceiling dropped tree worth) h = absurd h
-made_wide (reply.Bound best units) h = absurd h
-made_wide (reply.Materials materials) made = absurd made
-made_wide (reply.Parts material more parts) made = absurd made
-made_wide (reply.Demands demands more) made = absurd made
-made_wide (reply.Jobs jobs more) made = absurd made
-made_wide (reply.Job begun cuts h job kerf material part state tree w) made = absurd made
-made_wide (reply.Terminal last terminal) made = absurd made
-made_wide (reply.Orders more orders) made = absurd made
-made_wide (reply.Lines lines order) made = absurd made
-made_wide (reply.Shop began entries last) made = absurd made
-made_wide (reply.History entries more) made = absurd made
-made_wide (reply.Story entries more) made = absurd made
-made_wide (reply.Pieces more pieces) made = absurd made
-made_wide (reply.Steps job kerf material part state steps) made = absurd made
-made_wide (reply.Refused refusal) h = absurd h
+made_wide _ made = absurd made
 
 pub reported_text_read : (answer : Reply) → HasWideNumbers answer → read (json_texts.of_reply answer) ≡ Some (reply_data answer)
 unfolding json_texts

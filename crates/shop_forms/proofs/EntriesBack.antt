@@ -36,26 +36,7 @@ made_is (reply.Undo job part) h = refl
 made_is (reply.Note order) h = refl
 made_is (reply.Extend count first order) h = refl
 made_is (reply.Begin before job) h = refl
-made_is (reply.Totals material received stock rack pieces kerf scrap returned) h = absurd h
-made_is (reply.Rack material parts) h = absurd h
-made_is (reply.Trace batch h of part root state w x y) made = absurd made
-made_is (reply.Demand demand line made material order reserved wanted) h = absurd h
-made_is (reply.Plan ceiling dropped tree worth) h = absurd h
-made_is (reply.Bound best units) h = absurd h
-made_is (reply.Materials materials) made = absurd made
-made_is (reply.Parts material more parts) made = absurd made
-made_is (reply.Demands demands more) made = absurd made
-made_is (reply.Jobs jobs more) made = absurd made
-made_is (reply.Job begun cuts h job kerf material part state tree w) made = absurd made
-made_is (reply.Terminal last terminal) made = absurd made
-made_is (reply.Orders more orders) made = absurd made
-made_is (reply.Lines lines order) made = absurd made
-made_is (reply.Shop began entries last) made = absurd made
-made_is (reply.History entries more) made = absurd made
-made_is (reply.Story entries more) made = absurd made
-made_is (reply.Pieces more pieces) made = absurd made
-made_is (reply.Steps job kerf material part state steps) made = absurd made
-made_is (reply.Refused refusal) h = absurd h
+made_is _ made = absurd made
 
 -- the fields of an entry with these values
 fields_there : (d : Data) (e : ReportedEntry) (message answer : Data) → get (codes "at") d ≡ Some (number (unsigned e.at)) → get (codes "entry") d ≡ Some (number (unsigned e.entry))

@@ -203,26 +203,7 @@ made_readable (reply.Extend count first order) wide_ones =
     readable (made_data (reply.Extend count first order)) (IsNumber-decimal count wide_ones.0, (IsNumber-decimal first wide_ones.1, (tt, (tt, tt)))) (omega arith) (rw (number_of-decimal count wide_ones.0, number_of-decimal first wide_ones.1) refl)
 made_readable (reply.Begin before job) wide_ones =
     readable (made_data (reply.Begin before job)) (IsNumber-decimal before wide_ones.0, (IsNumber-decimal job wide_ones.1, (tt, tt))) (omega arith) (rw (number_of-decimal before wide_ones.0, number_of-decimal job wide_ones.1) refl)
-made_readable (reply.Totals material received stock rack pieces kerf scrap returned) wide_ones = nothing_readable
-made_readable (reply.Rack material parts) wide_ones = nothing_readable
-made_readable (reply.Trace batch h of part root state w x y) wide_ones = nothing_readable
-made_readable (reply.Demand demand line made material order reserved wanted) wide_ones = nothing_readable
-made_readable (reply.Plan ceiling dropped tree worth) wide_ones = nothing_readable
-made_readable (reply.Bound best units) wide_ones = nothing_readable
-made_readable (reply.Materials materials) wide_ones = nothing_readable
-made_readable (reply.Parts material more parts) wide_ones = nothing_readable
-made_readable (reply.Demands demands more) wide_ones = nothing_readable
-made_readable (reply.Jobs jobs more) wide_ones = nothing_readable
-made_readable (reply.Job begun cuts h job kerf material part state tree w) wide_ones = nothing_readable
-made_readable (reply.Terminal last terminal) wide_ones = nothing_readable
-made_readable (reply.Orders more orders) wide_ones = nothing_readable
-made_readable (reply.Lines lines order) wide_ones = nothing_readable
-made_readable (reply.Shop began entries last) wide_ones = nothing_readable
-made_readable (reply.History entries more) wide_ones = nothing_readable
-made_readable (reply.Story entries more) wide_ones = nothing_readable
-made_readable (reply.Pieces more pieces) wide_ones = nothing_readable
-made_readable (reply.Steps job kerf material part state steps) wide_ones = nothing_readable
-made_readable (reply.Refused refusal) wide_ones = nothing_readable
+made_readable _ wide_ones = nothing_readable
 
 pub message_reported_readable : (found : Option Message) → IfSome found IsMessage → IsReadable (message_reported found)
 message_reported_readable None h = nothing_readable

@@ -812,21 +812,6 @@ entries_reported word entries more =
 
 -- a reply as an object, its keys in byte order
 abbrev pub reply_data : Reply → Data
-reply_data (reply.AddMaterial material) = made_data (reply.AddMaterial material)
-reply_data (reply.Receive act count) = made_data (reply.Receive act count)
-reply_data (reply.AddOrder count first order) = made_data (reply.AddOrder count first order)
-reply_data (reply.Reserve cuts job) = made_data (reply.Reserve cuts job)
-reply_data (reply.Done job kerf pieces rack scrap) = made_data (reply.Done job kerf pieces rack scrap)
-reply_data (reply.Break job kerf pieces rack scrap) = made_data (reply.Break job kerf pieces rack scrap)
-reply_data (reply.Release job) = made_data (reply.Release job)
-reply_data (reply.Scrap part) = made_data (reply.Scrap part)
-reply_data (reply.GiveBack part) = made_data (reply.GiveBack part)
-reply_data (reply.Import act count first order) = made_data (reply.Import act count first order)
-reply_data (reply.Amend demand wanted) = made_data (reply.Amend demand wanted)
-reply_data (reply.Undo job part) = made_data (reply.Undo job part)
-reply_data (reply.Note order) = made_data (reply.Note order)
-reply_data (reply.Extend count first order) = made_data (reply.Extend count first order)
-reply_data (reply.Begin before job) = made_data (reply.Begin before job)
 reply_data (reply.Totals material received stock rack pieces kerf scrap returned) = totals_reported material received stock rack pieces kerf scrap returned
 reply_data (reply.Rack material parts) = rack_reported material parts
 reply_data (reply.Trace batch h of part root state w x y) = trace_data batch (name_text part) (name_text root) (state_text state) h of w x y
@@ -848,22 +833,19 @@ reply_data (reply.Pieces more pieces) = pieces_reported more pieces
 reply_data (reply.Steps job kerf material part state steps) = steps_reported job kerf material part state steps
 reply_data (reply.Refused refusal) =
     object (text_member (codes "name") (refusal_name refusal) (number_member (codes "refused") (refusal_number refusal) no_members))
+reply_data answer = made_data answer
 
 -- each number of a reply that an accepted message can get has 64 bits
 abbrev pub HasWideMade : Reply → Type 0
-HasWideMade (reply.AddMaterial material) = Unit {0}
 HasWideMade (reply.Receive act count) = IsWide act × IsWide count
 HasWideMade (reply.AddOrder count first order) = IsWide count × IsWide first
 HasWideMade (reply.Reserve cuts job) = IsWide cuts × IsWide job
 HasWideMade (reply.Done job kerf pieces rack scrap) = IsWide job × IsWide kerf × IsWide pieces × IsWide rack × IsWide scrap
 HasWideMade (reply.Break job kerf pieces rack scrap) = IsWide job × IsWide kerf × IsWide pieces × IsWide rack × IsWide scrap
 HasWideMade (reply.Release job) = IsWide job
-HasWideMade (reply.Scrap part) = Unit {0}
-HasWideMade (reply.GiveBack part) = Unit {0}
 HasWideMade (reply.Import act count first order) = IsWide act × IsWide count × IsWide first
 HasWideMade (reply.Amend demand wanted) = IsWide demand × IsWide wanted
 HasWideMade (reply.Undo job part) = IsWide job
-HasWideMade (reply.Note order) = Unit {0}
 HasWideMade (reply.Extend count first order) = IsWide count × IsWide first
 HasWideMade (reply.Begin before job) = IsWide before × IsWide job
 HasWideMade _ = Unit {0}
@@ -875,21 +857,6 @@ HasWideEntry e =
 
 -- each number of a reply has 64 bits
 abbrev pub HasWideNumbers : Reply → Type 0
-HasWideNumbers (reply.AddMaterial material) = HasWideMade (reply.AddMaterial material)
-HasWideNumbers (reply.Receive act count) = HasWideMade (reply.Receive act count)
-HasWideNumbers (reply.AddOrder count first order) = HasWideMade (reply.AddOrder count first order)
-HasWideNumbers (reply.Reserve cuts job) = HasWideMade (reply.Reserve cuts job)
-HasWideNumbers (reply.Done job kerf pieces rack scrap) = HasWideMade (reply.Done job kerf pieces rack scrap)
-HasWideNumbers (reply.Break job kerf pieces rack scrap) = HasWideMade (reply.Break job kerf pieces rack scrap)
-HasWideNumbers (reply.Release job) = HasWideMade (reply.Release job)
-HasWideNumbers (reply.Scrap part) = HasWideMade (reply.Scrap part)
-HasWideNumbers (reply.GiveBack part) = HasWideMade (reply.GiveBack part)
-HasWideNumbers (reply.Import act count first order) = HasWideMade (reply.Import act count first order)
-HasWideNumbers (reply.Amend demand wanted) = HasWideMade (reply.Amend demand wanted)
-HasWideNumbers (reply.Undo job part) = HasWideMade (reply.Undo job part)
-HasWideNumbers (reply.Note order) = HasWideMade (reply.Note order)
-HasWideNumbers (reply.Extend count first order) = HasWideMade (reply.Extend count first order)
-HasWideNumbers (reply.Begin before job) = HasWideMade (reply.Begin before job)
 HasWideNumbers (reply.Totals material received stock rack pieces kerf scrap returned) =
     IsWide kerf × IsWide pieces × IsWide rack × IsWide received × IsWide returned × IsWide scrap × IsWide stock
 HasWideNumbers (reply.Rack material parts) = All HasWideSides parts
@@ -912,6 +879,7 @@ HasWideNumbers (reply.Story entries more) = All HasWideEntry entries
 HasWideNumbers (reply.Pieces more pieces) = All HasWidePiece pieces
 HasWideNumbers (reply.Steps job kerf material part state steps) = IsWide job × IsWide kerf × All HasWideStep steps
 HasWideNumbers (reply.Refused refusal) = IsWide (refusal_number refusal)
+HasWideNumbers answer = HasWideMade answer
 
 -- ---- texts
 

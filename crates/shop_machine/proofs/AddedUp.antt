@@ -17,14 +17,9 @@ cells_as column code part = if counts_for column code part then part.size.w * pa
 
 -- anything but cut into parts
 abbrev pub is_uncut : State → Bool
-is_uncut state.Standing = true
-is_uncut (state.Reserved job) = true
 is_uncut (state.Cut job) = false
-is_uncut (state.Piece demand) = true
-is_uncut state.Kerf = true
-is_uncut state.Scrap = true
-is_uncut state.Returned = true
 is_uncut (state.Undone job) = false
+is_uncut _ = true
 
 -- the cells of a part of the material that isn't cut into parts
 abbrev pub cells_left : List ℕ → Part → ℕ

@@ -13,7 +13,7 @@ use Rattle.cut_tree.specs.Tree.{count_of}
 use Rattle.cut_tree.specs.Patterns.{Pattern}
 use Rattle.cut_tree.proofs.LeafCounts.{counted}
 use Rattle.shop_records.specs.declared.records.State.{State}
-use Rattle.shop_records.specs.declared.records.State.TheVariants.{Standing, Reserved, Cut, Piece, Kerf, Scrap, Returned, Undone}
+use Rattle.shop_records.specs.declared.records.State.TheVariants.{Standing}
 use Rattle.shop_records.specs.declared.refusals.Refusal.{Refusal}
 use Rattle.shop_records.specs.Columns.{is_free}
 use Rattle.shop_machine.specs.Recounts.{plan_leaves}
@@ -88,10 +88,4 @@ leaf_counts plan leaf i =
 -- a part that is free stands
 pub free_stands : (s : State) → is_free s ≡ true → s ≡ Standing
 free_stands Standing e = refl
-free_stands (Reserved job) e = cc
-free_stands (Cut job) e = cc
-free_stands (Piece demand) e = cc
-free_stands Kerf e = cc
-free_stands Scrap e = cc
-free_stands Returned e = cc
-free_stands (Undone job) e = cc
+free_stands _ e = cc

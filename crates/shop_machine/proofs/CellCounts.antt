@@ -12,7 +12,7 @@ use Rattle.cut_measure.specs.Measures.{Size, below}
 use Rattle.cut_tree.proofs.CellSums.{sum_cells, bit, sum_cells-same, sum_cells-add, sum_cells-zero, sum_mark, mark_in, mark_out}
 use Rattle.shop_records.specs.declared.records.Part.{Part}
 use Rattle.shop_records.specs.declared.records.State.{State}
-use Rattle.shop_records.specs.declared.records.State.TheVariants.{Standing, Reserved, Cut, Piece, Kerf, Scrap, Returned, Undone}
+use Rattle.shop_records.specs.declared.records.State.TheVariants.{Standing, Cut, Kerf, Scrap, Returned, Undone}
 use Rattle.shop_records.specs.declared.records.Column.{Column}
 use Rattle.shop_records.specs.declared.records.Column.TheVariants as column
 use Rattle.shop_records.specs.Same.{same_name}
@@ -164,104 +164,49 @@ module _ (q : Part → Bool) (code : List ℕ) (units : List ReceivedUnit) (apar
 -- ---- which rows a column counts
 
 there_whole : (s : State) → is_there s ≡ true → is_gone s ≡ false
-there_whole Standing e = refl
-there_whole (Reserved job) e = refl
 there_whole (Cut job) e = absurd (true≢false (sym e))
-there_whole (Piece demand) e = refl
-there_whole Kerf e = refl
-there_whole Scrap e = refl
-there_whole Returned e = refl
 there_whole (Undone job) e = absurd (true≢false (sym e))
+there_whole _ e = refl
 
 piece_whole : (s : State) → is_piece s ≡ true → is_gone s ≡ false
-piece_whole Standing e = refl
-piece_whole (Reserved job) e = refl
 piece_whole (Cut job) e = absurd (true≢false (sym e))
-piece_whole (Piece demand) e = refl
-piece_whole Kerf e = refl
-piece_whole Scrap e = refl
-piece_whole Returned e = refl
 piece_whole (Undone job) e = absurd (true≢false (sym e))
+piece_whole _ e = refl
 
 kerf_whole : (s : State) → is_kerf s ≡ true → is_gone s ≡ false
-kerf_whole Standing e = refl
-kerf_whole (Reserved job) e = refl
 kerf_whole (Cut job) e = absurd (true≢false (sym e))
-kerf_whole (Piece demand) e = refl
-kerf_whole Kerf e = refl
-kerf_whole Scrap e = refl
-kerf_whole Returned e = refl
 kerf_whole (Undone job) e = absurd (true≢false (sym e))
+kerf_whole _ e = refl
 
 scrap_whole : (s : State) → is_scrap s ≡ true → is_gone s ≡ false
-scrap_whole Standing e = refl
-scrap_whole (Reserved job) e = refl
 scrap_whole (Cut job) e = absurd (true≢false (sym e))
-scrap_whole (Piece demand) e = refl
-scrap_whole Kerf e = refl
-scrap_whole Scrap e = refl
-scrap_whole Returned e = refl
 scrap_whole (Undone job) e = absurd (true≢false (sym e))
+scrap_whole _ e = refl
 
 returned_whole : (s : State) → is_returned s ≡ true → is_gone s ≡ false
-returned_whole Standing e = refl
-returned_whole (Reserved job) e = refl
 returned_whole (Cut job) e = absurd (true≢false (sym e))
-returned_whole (Piece demand) e = refl
-returned_whole Kerf e = refl
-returned_whole Scrap e = refl
-returned_whole Returned e = refl
 returned_whole (Undone job) e = absurd (true≢false (sym e))
+returned_whole _ e = refl
 
 there_as : (s : State) → is_there s ≡ is_there (standing_as s)
 there_as Standing = refl
-there_as (Reserved job) = refl
-there_as (Cut job) = refl
-there_as (Piece demand) = refl
-there_as Kerf = refl
-there_as Scrap = refl
-there_as Returned = refl
-there_as (Undone job) = refl
+there_as _ = refl
 
 piece_as : (s : State) → is_piece s ≡ is_piece (standing_as s)
 piece_as Standing = refl
-piece_as (Reserved job) = refl
-piece_as (Cut job) = refl
-piece_as (Piece demand) = refl
-piece_as Kerf = refl
-piece_as Scrap = refl
-piece_as Returned = refl
-piece_as (Undone job) = refl
+piece_as _ = refl
 
 kerf_as : (s : State) → is_kerf s ≡ is_kerf (standing_as s)
 kerf_as Standing = refl
-kerf_as (Reserved job) = refl
-kerf_as (Cut job) = refl
-kerf_as (Piece demand) = refl
-kerf_as Kerf = refl
-kerf_as Scrap = refl
-kerf_as Returned = refl
-kerf_as (Undone job) = refl
+kerf_as _ = refl
 
 scrap_as : (s : State) → is_scrap s ≡ is_scrap (standing_as s)
 scrap_as Standing = refl
-scrap_as (Reserved job) = refl
-scrap_as (Cut job) = refl
-scrap_as (Piece demand) = refl
-scrap_as Kerf = refl
-scrap_as Scrap = refl
-scrap_as Returned = refl
-scrap_as (Undone job) = refl
+scrap_as _ = refl
 
 returned_as : (s : State) → is_returned s ≡ is_returned (standing_as s)
 returned_as Standing = refl
-returned_as (Reserved job) = refl
-returned_as (Cut job) = refl
-returned_as (Piece demand) = refl
-returned_as Kerf = refl
-returned_as Scrap = refl
-returned_as Returned = refl
-returned_as (Undone job) = refl
+returned_as _ = refl
 
 -- a column of rows that aren't cut, which counts a row as its owner
 record IsByOwner (c : Column) : Type 0 where

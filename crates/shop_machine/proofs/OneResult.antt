@@ -28,7 +28,7 @@ use Rattle.shop_records.specs.declared.imports.Form.TheVariants.{Csv, Cgcut}
 use Rattle.shop_records.specs.declared.journal.Entry.{Entry as EntryRow}
 use Rattle.shop_records.specs.declared.changes.Change.{Change}
 use Rattle.shop_records.specs.declared.messages.Command.{Command}
-use Rattle.shop_records.specs.declared.messages.Command.TheVariants.{AddMaterial, Receive, AddOrder, Reserve, Done, Break, Release, Scrap, GiveBack, Import, Amend, Undo, Note, Extend, Begin}
+use Rattle.shop_records.specs.declared.messages.Command.TheVariants.{Reserve, Done, Break, Release, Scrap, GiveBack, Import, Amend, Undo}
 use Rattle.shop_records.specs.declared.messages.Reply.TheVariants as reply
 use Rattle.shop_records.specs.Readings.{Reading, unread, Plan, Lines, Problem, Again}
 use Rattle.shop_records.specs.Content.{Content, part_at, halt_at, demand_at, totals_of, with_demands}
@@ -289,9 +289,6 @@ module _ (a : Content) (halts : FinMap nat_cmp JobHalt) (entries : FinMap nat_cm
         (subst (λ (x : Job). IsUndo x (halt_at b x.act) q n.limits (totals_of a q.material) (demand_at a) change) same_job undo))
 
   pub one_change : (command : Command) (read : Reading) (one other : Change) → Makes a command read one → Makes b command read other → IsSame command one other
-  one_change (AddMaterial material kind kerf min_long min_short) read one other p q = equal_same (AddMaterial material kind kerf min_long min_short) one other (p ∙ sym q)
-  one_change (Receive material batch w h count) read one other p q = equal_same (Receive material batch w h count) one other (p ∙ sym q)
-  one_change (AddOrder order lines) read one other p q = equal_same (AddOrder order lines) one other (p ∙ sym q)
   one_change (Reserve part text) read one other p q =
       let row : q.0 ≡ p.0 = same_some q.0 p.0 (sym q.2 ∙ p.2) in
       let plan : q.1 ≡ p.1 = same_plan q.1 p.1 (sym q.3 ∙ p.3) in
@@ -321,6 +318,4 @@ module _ (a : Content) (halts : FinMap nat_cmp JobHalt) (entries : FinMap nat_cm
       let also = undo_alike number p.0 q.0 p.1 q.1 p.2 q.2 p.3 q.3 other q.4 in
       undone_same (demand_at a) number p.0 (halt_at a p.0.act) (halt_at b p.0.act) p.1 p.2.limits (totals_of a p.1.material) one other p.4 also
       (one_end p.0 p.0.state (halt_at a p.0.act) (halt_at b p.0.act) p.4.end also.end (agree p.0.act) p.4.ended also.ended)
-  one_change (Note order due text) read one other p q = equal_same (Note order due text) one other (p ∙ sym q)
-  one_change (Extend order lines) read one other p q = equal_same (Extend order lines) one other (p ∙ sym q)
-  one_change (Begin number) read one other p q = equal_same (Begin number) one other (p ∙ sym q)
+  one_change command read one other p q = equal_same command one other (p ∙ sym q)

@@ -35,22 +35,13 @@ use Rattle.shop_machine.proofs.Grown.{IsStock, Grows, Untouched, placed_more, jo
 standing_no_piece : (s : State) → is_there s ≡ true → (number : ℕ) → is_piece_for number s ≡ false
 standing_no_piece state.Standing e number = refl
 standing_no_piece (state.Reserved job) e number = refl
-standing_no_piece (state.Cut job) e number = cc
-standing_no_piece (state.Piece demand) e number = cc
-standing_no_piece state.Kerf e number = cc
-standing_no_piece state.Scrap e number = cc
-standing_no_piece state.Returned e number = cc
 standing_no_piece (state.Undone job) e number = refl
+standing_no_piece _ e number = cc
 
 pub standing_uncut : (s : State) → is_there s ≡ true → is_uncut s ≡ true
-standing_uncut state.Standing e = refl
-standing_uncut (state.Reserved job) e = refl
 standing_uncut (state.Cut job) e = cc
-standing_uncut (state.Piece demand) e = refl
-standing_uncut state.Kerf e = refl
-standing_uncut state.Scrap e = refl
-standing_uncut state.Returned e = refl
 standing_uncut (state.Undone job) e = cc
+standing_uncut _ e = refl
 
 pub less_apart : (a b : Name) → name_cmp a b ≡ Less → a ≡ b → ⊥
 less_apart a b less e =

@@ -280,11 +280,7 @@ module _ (m : Content) (stock : IsStock m) (material batch : List ℕ) (w h coun
     abbrev of_units : Column → Bool
     of_units Received = true
     of_units Stock = true
-    of_units Rack = false
-    of_units Pieces = false
-    of_units Kerf = false
-    of_units Scrap = false
-    of_units Returned = false
+    of_units _ = false
 
     unit_counted : (c : Column) (i : ℕ) → is_counted c (unit_part material batch size act i) ≡ of_units c
     unit_counted Received i = same_self (record { act = act; node = i })

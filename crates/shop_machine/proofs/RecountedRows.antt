@@ -14,7 +14,7 @@ use Rattle.cut_tree.specs.Patterns.{Pattern}
 use Rattle.shop_records.specs.declared.records.Demand.{Demand}
 use Rattle.shop_machine.specs.declared.recounts.FoundLeaf.{FoundLeaf}
 use Rattle.shop_machine.specs.declared.recounts.Recount.{Recount}
-use Rattle.shop_machine.specs.declared.recounts.Recount.TheVariants.{Reserved, Laid, Freed, Unmade}
+use Rattle.shop_machine.specs.declared.recounts.Recount.TheVariants.{Reserved}
 use Rattle.shop_machine.specs.Recounts.{AreRecounted, plan_leaves, AreDemandsFound, leaves_in, recount_by, HasRow, IsAddedOnce, IsAlike, IsNumbered, pieces_in}
 use Rattle.shop_machine.specs.Reserving.{is_over}
 use Rattle.shop_machine.specs.Ending.{has_reserved}
@@ -183,9 +183,7 @@ none_added how tree leaves = record {
 
 pub number_kept : (how : Recount) (n : ℕ) (demand : Demand) → (recount_by how n demand).number ≡ demand.number
 number_kept Reserved n demand = refl
-number_kept (Laid laid) n demand = refl
-number_kept Freed n demand = refl
-number_kept (Unmade laid) n demand = refl
+number_kept _ n demand = refl
 
 any_row : (rows : List Demand) (a b : ℕ) → a ≡ b → Any (λ (row : Demand). row.number ≡ a) rows → Any (λ (row : Demand). row.number ≡ b) rows
 any_row rows a b e any = (any.0, any.1, any.2, any.3, any.4 ∙ e)

@@ -75,12 +75,7 @@ as_standing c part (state.Reserved job) e = by c
     by Kerf = refl
     by Scrap = refl
     by Returned = refl
-as_standing c part (state.Cut job) e = cc
-as_standing c part (state.Piece demand) e = cc
-as_standing c part state.Kerf e = cc
-as_standing c part state.Scrap e = cc
-as_standing c part state.Returned e = cc
-as_standing c part (state.Undone job) e = cc
+as_standing c part _ e = cc
 
 -- the cells of a part that is there are in the sums
 within : (m : FinMap name_cmp Part) (part : Part) → get m part.name ≡ Some part → (c : Column) (code : List ℕ) → cells_as c code part ≤ cells_in c code (values m)

@@ -74,30 +74,15 @@ after_cut_free number params owner.Lost size = refl
 -- the columns of what became of cells
 abbrev is_after_cut : Column → Bool
 is_after_cut Received = false
-is_after_cut Stock = true
-is_after_cut Rack = true
-is_after_cut Pieces = true
-is_after_cut Kerf = true
-is_after_cut Scrap = true
-is_after_cut Returned = true
+is_after_cut _ = true
 
 cut_uncounted : (c : Column) → is_after_cut c ≡ true → (n : ℕ) (p : Part) → is_counted c (in_state (state.Cut n) p) ≡ false
 cut_uncounted Received e n p = absurd (true≢false (sym e))
-cut_uncounted Stock e n p = refl
-cut_uncounted Rack e n p = refl
-cut_uncounted Pieces e n p = refl
-cut_uncounted Kerf e n p = refl
-cut_uncounted Scrap e n p = refl
-cut_uncounted Returned e n p = refl
+cut_uncounted _ e n p = refl
 
 undone_uncounted : (c : Column) → is_after_cut c ≡ true → (n : ℕ) (p : Part) → is_counted c (in_state (state.Undone n) p) ≡ false
 undone_uncounted Received e n p = absurd (true≢false (sym e))
-undone_uncounted Stock e n p = refl
-undone_uncounted Rack e n p = refl
-undone_uncounted Pieces e n p = refl
-undone_uncounted Kerf e n p = refl
-undone_uncounted Scrap e n p = refl
-undone_uncounted Returned e n p = refl
+undone_uncounted _ e n p = refl
 
 no_cells : (of counted : Bool) (n : ℕ) → counted ≡ false → ◌≡◌ {A = ℕ} (if of && counted then n else 0) 0
 no_cells true counted n e = ap {B = ℕ} (λ b. if b then n else 0) e

@@ -275,14 +275,9 @@ owner_before effects job unit x y = owner_when effects (Some job) unit x y
 
 -- cut, or undone: it owns no cell
 abbrev pub is_gone : State → Bool
-is_gone state.Standing = false
-is_gone (state.Reserved job) = false
 is_gone (state.Cut job) = true
-is_gone (state.Piece demand) = false
-is_gone state.Kerf = false
-is_gone state.Scrap = false
-is_gone state.Returned = false
 is_gone (state.Undone job) = true
+is_gone _ = false
 
 -- a reserved part stands
 abbrev pub standing_as : State → State

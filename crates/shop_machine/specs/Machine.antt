@@ -56,19 +56,7 @@ Reads texts old (Reserve part text) unread = (plan : Pattern) → IsReading old 
 Reads texts old (Reserve part text) (Plan plan) = IsReading old part text plan
 Reads texts old (Reserve part text) _ = ⊥
 Reads texts old (Import order form text) read = IsImportReading texts (import_at old order) form text read
-Reads texts old (AddMaterial material kind kerf min_long min_short) read = read ≡ unread
-Reads texts old (Receive material batch w h count) read = read ≡ unread
-Reads texts old (AddOrder order lines) read = read ≡ unread
-Reads texts old (Done number) read = read ≡ unread
-Reads texts old (Break number halt rest) read = read ≡ unread
-Reads texts old (Release number) read = read ≡ unread
-Reads texts old (Scrap part) read = read ≡ unread
-Reads texts old (GiveBack part) read = read ≡ unread
-Reads texts old (Amend demand wanted) read = read ≡ unread
-Reads texts old (Undo number) read = read ≡ unread
-Reads texts old (Note order due text) read = read ≡ unread
-Reads texts old (Extend order lines) read = read ≡ unread
-Reads texts old (Begin number) read = read ≡ unread
+Reads texts old _ read = read ≡ unread
 
 -- why a command is refused, if it is, what its text stands for being read
 abbrev pub refusal_of : Content → Command → Reading → Option Refusal
@@ -186,39 +174,19 @@ first_order (demand ∷ demands) = Some demand.order
 -- the order that a command makes, also by an import that came again, extends, notes, or of which it amends a demand, from the
 -- demands of its change
 abbrev pub entry_order : Command → List Demand → Option (List ℕ)
-entry_order (AddMaterial material kind kerf min_long min_short) demands = None
-entry_order (Receive material batch w h count) demands = None
 entry_order (AddOrder order lines) demands = Some order
-entry_order (Reserve part text) demands = None
-entry_order (Done number) demands = None
-entry_order (Break number halt rest) demands = None
-entry_order (Release number) demands = None
-entry_order (Scrap part) demands = None
-entry_order (GiveBack part) demands = None
 entry_order (Import order form text) demands = Some order
 entry_order (Amend demand wanted) demands = first_order demands
-entry_order (Undo number) demands = None
 entry_order (Note order due text) demands = Some order
 entry_order (Extend order lines) demands = Some order
-entry_order (Begin number) demands = None
+entry_order _ demands = None
 
 -- the part that a command reserves, scraps or returns
 abbrev pub entry_part : Command → Option Name
-entry_part (AddMaterial material kind kerf min_long min_short) = None
-entry_part (Receive material batch w h count) = None
-entry_part (AddOrder order lines) = None
 entry_part (Reserve part text) = Some part
-entry_part (Done number) = None
-entry_part (Break number halt rest) = None
-entry_part (Release number) = None
 entry_part (Scrap part) = Some part
 entry_part (GiveBack part) = Some part
-entry_part (Import order form text) = None
-entry_part (Amend demand wanted) = None
-entry_part (Undo number) = None
-entry_part (Note order due text) = None
-entry_part (Extend order lines) = None
-entry_part (Begin number) = None
+entry_part _ = None
 
 -- the job that a change reserves, ends, releases or undoes, or 0
 abbrev pub changed_job : Option Job → ℕ
@@ -226,21 +194,8 @@ changed_job found = of_found (λ (job : Job). job.act) found
 
 -- the job that a command reserves, begins, ends, releases or undoes, or 0, from the job of its change
 abbrev pub entry_job : Command → Option Job → ℕ
-entry_job (AddMaterial material kind kerf min_long min_short) found = changed_job found
-entry_job (Receive material batch w h count) found = changed_job found
-entry_job (AddOrder order lines) found = changed_job found
-entry_job (Reserve part text) found = changed_job found
-entry_job (Done number) found = changed_job found
-entry_job (Break number halt rest) found = changed_job found
-entry_job (Release number) found = changed_job found
-entry_job (Scrap part) found = changed_job found
-entry_job (GiveBack part) found = changed_job found
-entry_job (Import order form text) found = changed_job found
-entry_job (Amend demand wanted) found = changed_job found
-entry_job (Undo number) found = changed_job found
-entry_job (Note order due text) found = changed_job found
-entry_job (Extend order lines) found = changed_job found
 entry_job (Begin number) found = number
+entry_job _ found = changed_job found
 
 -- the entry of a message, under this number and with this time: what it made by its command and its change
 abbrev pub entry_of : (number at : ℕ) → Message → Change → Entry

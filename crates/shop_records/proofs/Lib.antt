@@ -9,6 +9,8 @@ pub mod LinesKept
 pub mod LineCounts
 -- the codes of orders, in order
 pub mod OrderCodes
+-- the names of words, which differ
+pub mod WordNames
 -- parts that are the same by a test
 pub mod SameRows
 -- the definitions on small examples

@@ -25,13 +25,7 @@ state_from (suc (suc (suc (suc (suc (suc (suc w))))))) n = state.Undone n
 
 from_own : (s : State) → state_from (word_number (state_word s)) (state_of s) ≡ s
 from_own state.Standing = refl
-from_own (state.Reserved job) = refl
-from_own (state.Cut job) = refl
-from_own (state.Piece demand) = refl
-from_own state.Kerf = refl
-from_own state.Scrap = refl
-from_own state.Returned = refl
-from_own (state.Undone job) = refl
+from_own _ = refl
 
 pub states_equal : (a b : State) → same_state a b ≡ true → a ≡ b
 states_equal a b e =

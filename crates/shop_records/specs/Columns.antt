@@ -20,52 +20,23 @@ is_whole part = same_name part.name part.root
 abbrev pub is_there : State → Bool
 is_there state.Standing = true
 is_there (state.Reserved job) = true
-is_there (state.Cut job) = false
-is_there (state.Piece demand) = false
-is_there state.Kerf = false
-is_there state.Scrap = false
-is_there state.Returned = false
-is_there (state.Undone job) = false
+is_there _ = false
 
 abbrev pub is_piece : State → Bool
-is_piece state.Standing = false
-is_piece (state.Reserved job) = false
-is_piece (state.Cut job) = false
 is_piece (state.Piece demand) = true
-is_piece state.Kerf = false
-is_piece state.Scrap = false
-is_piece state.Returned = false
-is_piece (state.Undone job) = false
+is_piece _ = false
 
 abbrev pub is_kerf : State → Bool
-is_kerf state.Standing = false
-is_kerf (state.Reserved job) = false
-is_kerf (state.Cut job) = false
-is_kerf (state.Piece demand) = false
 is_kerf state.Kerf = true
-is_kerf state.Scrap = false
-is_kerf state.Returned = false
-is_kerf (state.Undone job) = false
+is_kerf _ = false
 
 abbrev pub is_scrap : State → Bool
-is_scrap state.Standing = false
-is_scrap (state.Reserved job) = false
-is_scrap (state.Cut job) = false
-is_scrap (state.Piece demand) = false
-is_scrap state.Kerf = false
 is_scrap state.Scrap = true
-is_scrap state.Returned = false
-is_scrap (state.Undone job) = false
+is_scrap _ = false
 
 abbrev pub is_returned : State → Bool
-is_returned state.Standing = false
-is_returned (state.Reserved job) = false
-is_returned (state.Cut job) = false
-is_returned (state.Piece demand) = false
-is_returned state.Kerf = false
-is_returned state.Scrap = false
 is_returned state.Returned = true
-is_returned (state.Undone job) = false
+is_returned _ = false
 
 abbrev pub is_counted : Column → Part → Bool
 is_counted Received part = is_whole part
@@ -78,43 +49,22 @@ is_counted Returned part = is_returned part.state
 
 -- a piece of this demand
 abbrev pub is_piece_for : ℕ → State → Bool
-is_piece_for number state.Standing = false
-is_piece_for number (state.Reserved job) = false
-is_piece_for number (state.Cut job) = false
 is_piece_for number (state.Piece demand) = demand == number
-is_piece_for number state.Kerf = false
-is_piece_for number state.Scrap = false
-is_piece_for number state.Returned = false
-is_piece_for number (state.Undone job) = false
+is_piece_for number _ = false
 
 -- standing and not reserved
 abbrev pub is_free : State → Bool
 is_free state.Standing = true
-is_free (state.Reserved job) = false
-is_free (state.Cut job) = false
-is_free (state.Piece demand) = false
-is_free state.Kerf = false
-is_free state.Scrap = false
-is_free state.Returned = false
-is_free (state.Undone job) = false
+is_free _ = false
 
 -- reserved for this job
 abbrev pub is_reserved_for : ℕ → State → Bool
-is_reserved_for number state.Standing = false
 is_reserved_for number (state.Reserved job) = job == number
-is_reserved_for number (state.Cut job) = false
-is_reserved_for number (state.Piece demand) = false
-is_reserved_for number state.Kerf = false
-is_reserved_for number state.Scrap = false
-is_reserved_for number state.Returned = false
-is_reserved_for number (state.Undone job) = false
+is_reserved_for number _ = false
 
 abbrev pub is_waiting : JobState → Bool
 is_waiting job.Waiting = true
-is_waiting job.Done = false
-is_waiting job.Broken = false
-is_waiting job.Released = false
-is_waiting job.Undone = false
+is_waiting _ = false
 
 -- a state without its number
 abbrev pub state_word : State → StateWord

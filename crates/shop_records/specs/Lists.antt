@@ -144,55 +144,18 @@ has_job content is entry = unwrap_or (option_map is (job_at content entry.job)) 
 
 -- words of messages that make units, of those that make the parts of a job, and of those that take them back
 abbrev pub makes_units : Word → Bool
-makes_units word.Material = false
 makes_units word.Receive = true
-makes_units word.Order = false
-makes_units word.Reserve = false
-makes_units word.Done = false
-makes_units word.Break = false
-makes_units word.Release = false
-makes_units word.Scrap = false
-makes_units word.Return = false
 makes_units word.Import = true
-makes_units word.Amend = false
-makes_units word.Undo = false
-makes_units word.Note = false
-makes_units word.Extend = false
-makes_units word.Begin = false
+makes_units _ = false
 
 abbrev pub ends_job : Word → Bool
-ends_job word.Material = false
-ends_job word.Receive = false
-ends_job word.Order = false
-ends_job word.Reserve = false
 ends_job word.Done = true
 ends_job word.Break = true
-ends_job word.Release = false
-ends_job word.Scrap = false
-ends_job word.Return = false
-ends_job word.Import = false
-ends_job word.Amend = false
-ends_job word.Undo = false
-ends_job word.Note = false
-ends_job word.Extend = false
-ends_job word.Begin = false
+ends_job _ = false
 
 abbrev pub undoes_job : Word → Bool
-undoes_job word.Material = false
-undoes_job word.Receive = false
-undoes_job word.Order = false
-undoes_job word.Reserve = false
-undoes_job word.Done = false
-undoes_job word.Break = false
-undoes_job word.Release = false
-undoes_job word.Scrap = false
-undoes_job word.Return = false
-undoes_job word.Import = false
-undoes_job word.Amend = false
 undoes_job word.Undo = true
-undoes_job word.Note = false
-undoes_job word.Extend = false
-undoes_job word.Begin = false
+undoes_job _ = false
 
 -- The entry's message made the part, its receipt or import, or the end of the job that it is named after; or it took that end
 -- back.

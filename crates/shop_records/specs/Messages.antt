@@ -86,26 +86,7 @@ IsMade (reply.Undo job part) = IsNumber job × IsName part
 IsMade (reply.Note order) = IsTrue (is_code order)
 IsMade (reply.Extend count first order) = IsNumber count × IsNumber first × IsTrue (is_code order)
 IsMade (reply.Begin before job) = IsNumber before × IsNumber job
-IsMade (reply.Totals material received stock rack pieces kerf scrap returned) = ⊥
-IsMade (reply.Rack material parts) = ⊥
-IsMade (reply.Trace batch h of part root state w x y) = ⊥
-IsMade (reply.Demand demand line made material order reserved wanted) = ⊥
-IsMade (reply.Plan ceiling dropped tree worth) = ⊥
-IsMade (reply.Bound best units) = ⊥
-IsMade (reply.Materials materials) = ⊥
-IsMade (reply.Parts material more parts) = ⊥
-IsMade (reply.Demands demands more) = ⊥
-IsMade (reply.Jobs jobs more) = ⊥
-IsMade (reply.Job begun cuts h job kerf material part state tree w) = ⊥
-IsMade (reply.Terminal last terminal) = ⊥
-IsMade (reply.Orders more orders) = ⊥
-IsMade (reply.Lines lines order) = ⊥
-IsMade (reply.Shop began entries last) = ⊥
-IsMade (reply.History entries more) = ⊥
-IsMade (reply.Story entries more) = ⊥
-IsMade (reply.Pieces more pieces) = ⊥
-IsMade (reply.Steps job kerf material part state steps) = ⊥
-IsMade (reply.Refused refusal) = ⊥
+IsMade _ = ⊥
 
 -- the refusal that a reply gives
 abbrev pub refusal_in : Reply → Option Refusal

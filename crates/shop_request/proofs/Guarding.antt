@@ -8,7 +8,7 @@ use Rattle.httparse.specs.declared.spans.RequestSpans.{RequestSpans}
 use Rattle.httparse.specs.Grammar.{RequestHead, HasNoRequest, MayBecomeRequest}
 use Rattle.httparse.specs.Spans.{IsRequestAt, header_bytes, name_and_value, span_bytes}
 use Rattle.shop_request.specs.declared.faults.RequestFault.{RequestFault}
-use Rattle.shop_request.specs.declared.faults.RequestFault.TheVariants.{BadRequest, NotFound, OnlyGet, OnlyPost, NoLength, LargeBody, LargeHead}
+use Rattle.shop_request.specs.declared.faults.RequestFault.TheVariants.{BadRequest, LargeHead}
 use Rattle.shop_request.specs.declared.guards.Guard.{Guard}
 use Rattle.shop_request.specs.declared.guards.Verdict.{Verdict}
 use Rattle.shop_request.specs.declared.guards.Verdict.TheVariants.{Routed}
@@ -73,11 +73,7 @@ module _ (guard : Guard) (received : List ℕ) where
 no_fault : (input : List ℕ) (h : RequestHead) (f : RequestFault) → BeginsWith input h → HasHead input (Err f) → ⊥
 no_fault input h BadRequest begins is = not_bad input h begins is
 no_fault input h LargeHead begins is = not_large input h begins is
-no_fault input h NotFound begins is = is
-no_fault input h OnlyGet begins is = is
-no_fault input h OnlyPost begins is = is
-no_fault input h NoLength begins is = is
-no_fault input h LargeBody begins is = is
+no_fault input h _ begins is = is
 
 checked_as : (guard : Guard) (input : List ℕ) (a b : Result RequestHead RequestFault) → HasHead input a → HasHead input b → checked guard a ≡ checked guard b
 checked_as guard input (Ok h) (Ok k) x y = ap (checked_head guard) (request_unique (prefix input) h k x.rest y.rest x.reads y.reads).0

@@ -49,40 +49,7 @@ route_text Steps = codes "/steps/{job}"
 
 -- the bytes in front of its first parameter
 abbrev pub route_start : Route → List ℕ
-route_start Message = codes "/message"
-route_start Plan = codes "/plan"
-route_start Plans = codes "/plans"
-route_start Bound = codes "/bound"
-route_start Backup = codes "/backup"
-route_start Totals = codes "/totals/"
-route_start Rack = codes "/rack/"
-route_start Trace = codes "/trace/"
-route_start Demand = codes "/demand/"
-route_start Ticket = codes "/ticket/"
-route_start Yield = codes "/yield/"
-route_start Materials = codes "/materials"
-route_start Parts = codes "/parts/"
-route_start PartsAfter = codes "/parts/"
-route_start Demands = codes "/demands/"
-route_start DemandsOf = codes "/demands/"
-route_start Orders = codes "/orders"
-route_start OrdersAfter = codes "/orders/"
-route_start OrderLines = codes "/order/"
-route_start Jobs = codes "/jobs/"
-route_start Job = codes "/job/"
-route_start Terminal = codes "/terminal/"
-route_start Shop = codes "/shop"
-route_start History = codes "/history/"
-route_start OrderStory = codes "/story/order/"
-route_start JobStory = codes "/story/job/"
-route_start PartStory = codes "/story/part/"
-route_start OrderPieces = codes "/pieces/order/"
-route_start OrderPiecesAfter = codes "/pieces/order/"
-route_start BatchPieces = codes "/pieces/batch/"
-route_start BatchPiecesAfter = codes "/pieces/batch/"
-route_start UnitPieces = codes "/pieces/unit/"
-route_start UnitPiecesAfter = codes "/pieces/unit/"
-route_start Steps = codes "/steps/"
+route_start route = before_first (λ b. b == 123) (route_text route)
 
 -- whether it takes a body
 abbrev pub takes_body : Route → Bool
@@ -91,35 +58,7 @@ takes_body Plan = true
 takes_body Plans = true
 takes_body Bound = true
 takes_body Backup = true
-takes_body Totals = false
-takes_body Rack = false
-takes_body Trace = false
-takes_body Demand = false
-takes_body Ticket = false
-takes_body Yield = false
-takes_body Materials = false
-takes_body Parts = false
-takes_body PartsAfter = false
-takes_body Demands = false
-takes_body DemandsOf = false
-takes_body Orders = false
-takes_body OrdersAfter = false
-takes_body OrderLines = false
-takes_body Jobs = false
-takes_body Job = false
-takes_body Terminal = false
-takes_body Shop = false
-takes_body History = false
-takes_body OrderStory = false
-takes_body JobStory = false
-takes_body PartStory = false
-takes_body OrderPieces = false
-takes_body OrderPiecesAfter = false
-takes_body BatchPieces = false
-takes_body BatchPiecesAfter = false
-takes_body UnitPieces = false
-takes_body UnitPiecesAfter = false
-takes_body Steps = false
+takes_body _ = false
 
 abbrev pub RouteRows : Type 0
 RouteRows = RowsOf (RouteOf Route)

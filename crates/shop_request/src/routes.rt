@@ -126,41 +126,9 @@ impl Route {
     pub(crate) fn start(self) -> usize
         ensures { result ≡ length (route_start self) }
     {
-        match self {
-            Route::Message => 8,
-            Route::Plan => 5,
-            Route::Plans => 6,
-            Route::Bound => 6,
-            Route::Backup => 7,
-            Route::Totals => 8,
-            Route::Rack => 6,
-            Route::Trace => 7,
-            Route::Demand => 8,
-            Route::Ticket => 8,
-            Route::Yield => 7,
-            Route::Materials => 10,
-            Route::Parts => 7,
-            Route::PartsAfter => 7,
-            Route::Demands => 9,
-            Route::DemandsOf => 9,
-            Route::Orders => 7,
-            Route::OrdersAfter => 8,
-            Route::OrderLines => 7,
-            Route::Jobs => 6,
-            Route::Job => 5,
-            Route::Terminal => 10,
-            Route::Shop => 5,
-            Route::History => 9,
-            Route::OrderStory => 13,
-            Route::JobStory => 11,
-            Route::PartStory => 12,
-            Route::OrderPieces => 14,
-            Route::OrderPiecesAfter => 14,
-            Route::BatchPieces => 14,
-            Route::BatchPiecesAfter => 14,
-            Route::UnitPieces => 13,
-            Route::UnitPiecesAfter => 13,
-            Route::Steps => 7,
+        match self.text().split_once('{') {
+            Some((start, _)) => start.len(),
+            None => self.text().len(),
         }
     }
 

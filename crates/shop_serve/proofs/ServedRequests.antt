@@ -7,7 +7,7 @@ use Rattle.std.specs.declared.time.Instant.{Instant}
 use Rattle.shop_records.specs.declared.refusals.Refusal.{Refusal}
 use Rattle.shop_request.specs.Requests.{ParseResult, silent, faulty, asking, ParsesTo}
 use Rattle.shop_request.specs.declared.routes.Route.{Route}
-use Rattle.shop_request.specs.declared.routes.Route.TheVariants.{Message, Plan, Plans, Bound, Backup, Totals, Rack, Trace, Demand, Ticket, Yield, Materials, Parts, PartsAfter, Demands, DemandsOf, Orders, OrdersAfter, OrderLines, Jobs, Job, Terminal, Shop, History, OrderStory, JobStory, PartStory, OrderPieces, OrderPiecesAfter, BatchPieces, BatchPiecesAfter, UnitPieces, UnitPiecesAfter, Steps}
+use Rattle.shop_request.specs.declared.routes.Route.TheVariants.{Backup}
 use Rattle.shop_serve.specs.Times.{Times}
 use Rattle.shop_desk.specs.Handled.{HasAccount}
 use Rattle.shop_desk.specs.Faults.{CountsUp}
@@ -16,7 +16,7 @@ use Rattle.shop_desk.proofs.Justified.{up_more, failed_first, failed_last}
 use Rattle.shop_records.specs.Content.{Content}
 use Rattle.shop_request.specs.Guards.{HasVerdict}
 use Rattle.shop_request.specs.declared.guards.Verdict.{Verdict}
-use Rattle.shop_request.specs.declared.guards.Verdict.TheVariants.{Routed, Forbidden, OtherRun, Page, Health, OnlyGet, NoBackups}
+use Rattle.shop_request.specs.declared.guards.Verdict.TheVariants.{Routed}
 use Rattle.shop_forms.specs.Forms.{json_texts}
 use Rattle.shop_book.specs.declared.books.Book.{Ghosts}
 use Rattle.shop_planning.specs.declared.instance.PlanInstance.{PlanInstance}
@@ -33,12 +33,7 @@ use Rattle.shop_serve.specs.Serving.{ServedRequest, Handling, HandlingStep, IsCo
 -- what goes to its route, and what doesn't
 pub is_route : (r : Verdict) → is_routed r ≡ true → r ≡ Routed
 is_route Routed e = refl
-is_route Forbidden e = absurd (cc e)
-is_route OtherRun e = absurd (cc e)
-is_route Page e = absurd (cc e)
-is_route Health e = absurd (cc e)
-is_route OnlyGet e = absurd (cc e)
-is_route NoBackups e = absurd (cc e)
+is_route _ e = absurd (cc e)
 
 pub no_route : (r : Verdict) → is_routed r ≡ false → r ≢ Routed
 no_route r e is = absurd (cc (sym (ap is_routed is) ∙ e))
@@ -46,39 +41,7 @@ no_route r e is = absurd (cc (sym (ap is_routed is) ∙ e))
 -- a backup is asked for by some body
 pub is_for_backup : (route : Route) → is_backup route ≡ true → route ≡ Backup
 is_for_backup Backup e = refl
-is_for_backup Message e = absurd (cc e)
-is_for_backup Plan e = absurd (cc e)
-is_for_backup Plans e = absurd (cc e)
-is_for_backup Bound e = absurd (cc e)
-is_for_backup Totals e = absurd (cc e)
-is_for_backup Rack e = absurd (cc e)
-is_for_backup Trace e = absurd (cc e)
-is_for_backup Demand e = absurd (cc e)
-is_for_backup Ticket e = absurd (cc e)
-is_for_backup Yield e = absurd (cc e)
-is_for_backup Materials e = absurd (cc e)
-is_for_backup Parts e = absurd (cc e)
-is_for_backup PartsAfter e = absurd (cc e)
-is_for_backup Demands e = absurd (cc e)
-is_for_backup DemandsOf e = absurd (cc e)
-is_for_backup Orders e = absurd (cc e)
-is_for_backup OrdersAfter e = absurd (cc e)
-is_for_backup OrderLines e = absurd (cc e)
-is_for_backup Jobs e = absurd (cc e)
-is_for_backup Job e = absurd (cc e)
-is_for_backup Terminal e = absurd (cc e)
-is_for_backup Shop e = absurd (cc e)
-is_for_backup History e = absurd (cc e)
-is_for_backup OrderStory e = absurd (cc e)
-is_for_backup JobStory e = absurd (cc e)
-is_for_backup PartStory e = absurd (cc e)
-is_for_backup OrderPieces e = absurd (cc e)
-is_for_backup OrderPiecesAfter e = absurd (cc e)
-is_for_backup BatchPieces e = absurd (cc e)
-is_for_backup BatchPiecesAfter e = absurd (cc e)
-is_for_backup UnitPieces e = absurd (cc e)
-is_for_backup UnitPiecesAfter e = absurd (cc e)
-is_for_backup Steps e = absurd (cc e)
+is_for_backup _ e = absurd (cc e)
 
 pub backup_asked : (received : List ℕ) (parsed : ParseResult) → asks_backup parsed ≡ true → ParsesTo received parsed → (body : List ℕ) × ParsesTo received (asking Backup body)
 backup_asked received silent e has = absurd (cc e)

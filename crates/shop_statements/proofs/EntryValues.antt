@@ -1,56 +1,14 @@
 -- No columns stand for two entries.
 use Rattle.std.proofs.Common.{◌≡◌, ◌≤◌, arith, ℕ, List, [], ◌∷◌, Option, Some, None, IfSome, IsTrue, refl, sym, ap, ◌∙◌}
-use Rattle.std.specs.Prelude.{cond, get_or, nat_eq}
 use Rattle.sqlite_value.specs.Order.{Row}
 use Rattle.cut_measure.specs.Codes.{is_code}
 use Rattle.cut_measure.specs.Names.{Name, IsName}
 use Rattle.shop_records.specs.declared.journal.Entry.{Entry}
-use Rattle.shop_records.specs.declared.journal.Word.{Word}
-use Rattle.shop_records.specs.declared.journal.Word.TheVariants as word
 use Rattle.shop_records.specs.Journal.{word_name}
+use Rattle.shop_records.proofs.WordNames.{one_word}
 use Rattle.shop_statements.specs.Rows.{act_number, entry_columns, node_number, order_text}
 use Rattle.shop_statements.specs.Shown.{IsRowOf}
 use Rattle.shop_statements.specs.Values.{IsEntryValue, IsOwnEntry}
-
--- the word of a name: its first letter decides it, or its third
-word_back : List ℕ → Word
-word_back text =
-    let first = get_or text 0 0 in
-    let third = get_or text 2 0 in
-    cond (nat_eq first 109) word.Material
-    (cond (nat_eq first 111) word.Order
-    (cond (nat_eq first 100) word.Done
-    (cond (nat_eq first 98) (cond (nat_eq (get_or text 1 0) 101) word.Begin word.Break)
-    (cond (nat_eq first 117) word.Undo
-    (cond (nat_eq first 110) word.Note
-    (cond (nat_eq first 101) word.Extend
-    (cond (nat_eq first 105) word.Import
-    (cond (nat_eq first 97) word.Amend
-    (cond (nat_eq (get_or text 1 0) 99) word.Scrap
-    (cond (nat_eq third 99) word.Receive
-    (cond (nat_eq third 115) word.Reserve
-    (cond (nat_eq third 108) word.Release word.Return))))))))))))
-
-back_again : (w : Word) → word_back (word_name w) ≡ w
-unfolding word_back
-back_again word.Material = refl
-back_again word.Receive = refl
-back_again word.Order = refl
-back_again word.Reserve = refl
-back_again word.Done = refl
-back_again word.Break = refl
-back_again word.Release = refl
-back_again word.Scrap = refl
-back_again word.Return = refl
-back_again word.Import = refl
-back_again word.Amend = refl
-back_again word.Undo = refl
-back_again word.Note = refl
-back_again word.Extend = refl
-back_again word.Begin = refl
-
-one_word : (v w : Word) → word_name v ≡ word_name w → v ≡ w
-one_word v w e = sym (back_again v) ∙ ap word_back e ∙ back_again w
 
 no_code : (code : List ℕ) → IsTrue (is_code code) → [] ≡ code → ⊥
 no_code [] is h = empty_code is

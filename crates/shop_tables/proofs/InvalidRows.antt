@@ -5,7 +5,7 @@ use Rattle.sqlite_value.specs.Order.{Row, column}
 use Rattle.cut_measure.specs.declared.sizes.Kind.{Kind}
 use Rattle.cut_measure.specs.declared.sizes.Kind.TheVariants.{Bar, Sheet}
 use Rattle.shop_records.specs.declared.records.JobState.{JobState}
-use Rattle.shop_records.specs.declared.records.JobState.TheVariants.{Waiting, Done, Broken, Released, Undone}
+use Rattle.shop_records.specs.declared.records.JobState.TheVariants.{Waiting}
 use Rattle.shop_records.specs.declared.records.Totals.{Totals}
 use Rattle.shop_statements.specs.Rows.{job_state_number, kind_number, turn_number}
 use Rattle.shop_tables.specs.Listing.{listed_row}
@@ -40,7 +40,4 @@ kind_small Sheet = omega arith
 
 pub job_state_small : (s : JobState) → job_state_number s ≤ 4
 job_state_small Waiting = omega arith
-job_state_small Done = omega arith
-job_state_small Broken = omega arith
-job_state_small Released = omega arith
-job_state_small Undone = omega arith
+job_state_small _ = omega arith

@@ -26,7 +26,7 @@ use Rattle.shop_text.specs.Tickets.{ticket_of}
 use Rattle.shop_text.specs.Yields.{yield_of}
 use Rattle.shop_text.proofs.ReportedTickets.{ticket_reported, report_response}
 use Rattle.shop_request.specs.declared.routes.Route.{Route}
-use Rattle.shop_request.specs.declared.routes.Route.TheVariants.{Message, Plan, Plans, Bound, Backup, Totals, Rack, Trace, Demand, Ticket, Yield, Materials, Parts, PartsAfter, Demands, DemandsOf, Orders, OrdersAfter, OrderLines, Jobs, Job, Terminal, Shop, History, OrderStory, JobStory, PartStory, OrderPieces, OrderPiecesAfter, BatchPieces, BatchPiecesAfter, UnitPieces, UnitPiecesAfter, Steps}
+use Rattle.shop_request.specs.declared.routes.Route.TheVariants.{Message, Plans, Ticket, Yield}
 use Rattle.shop_request.specs.Requests.{asking}
 use Rattle.shop_wire.specs.AnswerBytes.{Response, replied, printed}
 use Rattle.shop_wire.specs.Replays.{ExchangesLead, IsNoMessage, PlansStep, line_message, with_reply}
@@ -186,39 +186,7 @@ module _ {B : Type 0} (book : Ghosts B) (before after : B) (m : Content) where
 
     pub else_timed : (route : Route) (text : List ℕ) → route ≢ Message → IsInputHandledAt book after at m (parse_message (asking route text))
     else_timed Message text other = absurd (other refl)
-    else_timed Plan text other = tt
-    else_timed Plans text other = tt
-    else_timed Bound text other = tt
-    else_timed Backup text other = tt
-    else_timed Totals text other = tt
-    else_timed Rack text other = tt
-    else_timed Trace text other = tt
-    else_timed Demand text other = tt
-    else_timed Ticket text other = tt
-    else_timed Yield text other = tt
-    else_timed Materials text other = tt
-    else_timed Parts text other = tt
-    else_timed PartsAfter text other = tt
-    else_timed Demands text other = tt
-    else_timed DemandsOf text other = tt
-    else_timed Orders text other = tt
-    else_timed OrdersAfter text other = tt
-    else_timed OrderLines text other = tt
-    else_timed Jobs text other = tt
-    else_timed Job text other = tt
-    else_timed Terminal text other = tt
-    else_timed Shop text other = tt
-    else_timed History text other = tt
-    else_timed OrderStory text other = tt
-    else_timed JobStory text other = tt
-    else_timed PartStory text other = tt
-    else_timed OrderPieces text other = tt
-    else_timed OrderPiecesAfter text other = tt
-    else_timed BatchPieces text other = tt
-    else_timed BatchPiecesAfter text other = tt
-    else_timed UnitPieces text other = tt
-    else_timed UnitPiecesAfter text other = tt
-    else_timed Steps text other = tt
+    else_timed _ text other = tt
 
   -- ---- what changes nothing
 
@@ -229,36 +197,7 @@ module _ {B : Type 0} (book : Ghosts B) (before after : B) (m : Content) where
     asked_served Plans text reply a b c d step store_fault_justified = absurd (b refl)
     asked_served Ticket text reply a b c d step store_fault_justified = absurd (c refl)
     asked_served Yield text reply a b c d step store_fault_justified = absurd (d refl)
-    asked_served Plan text reply a b c d step store_fault_justified = record { next = m; step = step; held = held; well_formed = well_formed; crash = (refl, keeps); store_fault_justified = λ e. store_fault_justified (reported_reply reply (Refused StoreFault) e); account = account_same json_texts m m refl }
-    asked_served Bound text reply a b c d step store_fault_justified = record { next = m; step = step; held = held; well_formed = well_formed; crash = (refl, keeps); store_fault_justified = λ e. store_fault_justified (reported_reply reply (Refused StoreFault) e); account = account_same json_texts m m refl }
-    asked_served Backup text reply a b c d step store_fault_justified = record { next = m; step = step; held = held; well_formed = well_formed; crash = (refl, keeps); store_fault_justified = λ e. store_fault_justified (reported_reply reply (Refused StoreFault) e); account = account_same json_texts m m refl }
-    asked_served Totals text reply a b c d step store_fault_justified = record { next = m; step = step; held = held; well_formed = well_formed; crash = (refl, keeps); store_fault_justified = λ e. store_fault_justified (reported_reply reply (Refused StoreFault) e); account = account_same json_texts m m refl }
-    asked_served Rack text reply a b c d step store_fault_justified = record { next = m; step = step; held = held; well_formed = well_formed; crash = (refl, keeps); store_fault_justified = λ e. store_fault_justified (reported_reply reply (Refused StoreFault) e); account = account_same json_texts m m refl }
-    asked_served Trace text reply a b c d step store_fault_justified = record { next = m; step = step; held = held; well_formed = well_formed; crash = (refl, keeps); store_fault_justified = λ e. store_fault_justified (reported_reply reply (Refused StoreFault) e); account = account_same json_texts m m refl }
-    asked_served Demand text reply a b c d step store_fault_justified = record { next = m; step = step; held = held; well_formed = well_formed; crash = (refl, keeps); store_fault_justified = λ e. store_fault_justified (reported_reply reply (Refused StoreFault) e); account = account_same json_texts m m refl }
-    asked_served Materials text reply a b c d step store_fault_justified = record { next = m; step = step; held = held; well_formed = well_formed; crash = (refl, keeps); store_fault_justified = λ e. store_fault_justified (reported_reply reply (Refused StoreFault) e); account = account_same json_texts m m refl }
-    asked_served Parts text reply a b c d step store_fault_justified = record { next = m; step = step; held = held; well_formed = well_formed; crash = (refl, keeps); store_fault_justified = λ e. store_fault_justified (reported_reply reply (Refused StoreFault) e); account = account_same json_texts m m refl }
-    asked_served PartsAfter text reply a b c d step store_fault_justified = record { next = m; step = step; held = held; well_formed = well_formed; crash = (refl, keeps); store_fault_justified = λ e. store_fault_justified (reported_reply reply (Refused StoreFault) e); account = account_same json_texts m m refl }
-    asked_served Demands text reply a b c d step store_fault_justified = record { next = m; step = step; held = held; well_formed = well_formed; crash = (refl, keeps); store_fault_justified = λ e. store_fault_justified (reported_reply reply (Refused StoreFault) e); account = account_same json_texts m m refl }
-    asked_served DemandsOf text reply a b c d step store_fault_justified = record { next = m; step = step; held = held; well_formed = well_formed; crash = (refl, keeps); store_fault_justified = λ e. store_fault_justified (reported_reply reply (Refused StoreFault) e); account = account_same json_texts m m refl }
-    asked_served Orders text reply a b c d step store_fault_justified = record { next = m; step = step; held = held; well_formed = well_formed; crash = (refl, keeps); store_fault_justified = λ e. store_fault_justified (reported_reply reply (Refused StoreFault) e); account = account_same json_texts m m refl }
-    asked_served OrdersAfter text reply a b c d step store_fault_justified = record { next = m; step = step; held = held; well_formed = well_formed; crash = (refl, keeps); store_fault_justified = λ e. store_fault_justified (reported_reply reply (Refused StoreFault) e); account = account_same json_texts m m refl }
-    asked_served OrderLines text reply a b c d step store_fault_justified = record { next = m; step = step; held = held; well_formed = well_formed; crash = (refl, keeps); store_fault_justified = λ e. store_fault_justified (reported_reply reply (Refused StoreFault) e); account = account_same json_texts m m refl }
-    asked_served Jobs text reply a b c d step store_fault_justified = record { next = m; step = step; held = held; well_formed = well_formed; crash = (refl, keeps); store_fault_justified = λ e. store_fault_justified (reported_reply reply (Refused StoreFault) e); account = account_same json_texts m m refl }
-    asked_served Job text reply a b c d step store_fault_justified = record { next = m; step = step; held = held; well_formed = well_formed; crash = (refl, keeps); store_fault_justified = λ e. store_fault_justified (reported_reply reply (Refused StoreFault) e); account = account_same json_texts m m refl }
-    asked_served Terminal text reply a b c d step store_fault_justified = record { next = m; step = step; held = held; well_formed = well_formed; crash = (refl, keeps); store_fault_justified = λ e. store_fault_justified (reported_reply reply (Refused StoreFault) e); account = account_same json_texts m m refl }
-    asked_served Shop text reply a b c d step store_fault_justified = record { next = m; step = step; held = held; well_formed = well_formed; crash = (refl, keeps); store_fault_justified = λ e. store_fault_justified (reported_reply reply (Refused StoreFault) e); account = account_same json_texts m m refl }
-    asked_served History text reply a b c d step store_fault_justified = record { next = m; step = step; held = held; well_formed = well_formed; crash = (refl, keeps); store_fault_justified = λ e. store_fault_justified (reported_reply reply (Refused StoreFault) e); account = account_same json_texts m m refl }
-    asked_served OrderStory text reply a b c d step store_fault_justified = record { next = m; step = step; held = held; well_formed = well_formed; crash = (refl, keeps); store_fault_justified = λ e. store_fault_justified (reported_reply reply (Refused StoreFault) e); account = account_same json_texts m m refl }
-    asked_served JobStory text reply a b c d step store_fault_justified = record { next = m; step = step; held = held; well_formed = well_formed; crash = (refl, keeps); store_fault_justified = λ e. store_fault_justified (reported_reply reply (Refused StoreFault) e); account = account_same json_texts m m refl }
-    asked_served PartStory text reply a b c d step store_fault_justified = record { next = m; step = step; held = held; well_formed = well_formed; crash = (refl, keeps); store_fault_justified = λ e. store_fault_justified (reported_reply reply (Refused StoreFault) e); account = account_same json_texts m m refl }
-    asked_served OrderPieces text reply a b c d step store_fault_justified = record { next = m; step = step; held = held; well_formed = well_formed; crash = (refl, keeps); store_fault_justified = λ e. store_fault_justified (reported_reply reply (Refused StoreFault) e); account = account_same json_texts m m refl }
-    asked_served OrderPiecesAfter text reply a b c d step store_fault_justified = record { next = m; step = step; held = held; well_formed = well_formed; crash = (refl, keeps); store_fault_justified = λ e. store_fault_justified (reported_reply reply (Refused StoreFault) e); account = account_same json_texts m m refl }
-    asked_served BatchPieces text reply a b c d step store_fault_justified = record { next = m; step = step; held = held; well_formed = well_formed; crash = (refl, keeps); store_fault_justified = λ e. store_fault_justified (reported_reply reply (Refused StoreFault) e); account = account_same json_texts m m refl }
-    asked_served BatchPiecesAfter text reply a b c d step store_fault_justified = record { next = m; step = step; held = held; well_formed = well_formed; crash = (refl, keeps); store_fault_justified = λ e. store_fault_justified (reported_reply reply (Refused StoreFault) e); account = account_same json_texts m m refl }
-    asked_served UnitPieces text reply a b c d step store_fault_justified = record { next = m; step = step; held = held; well_formed = well_formed; crash = (refl, keeps); store_fault_justified = λ e. store_fault_justified (reported_reply reply (Refused StoreFault) e); account = account_same json_texts m m refl }
-    asked_served UnitPiecesAfter text reply a b c d step store_fault_justified = record { next = m; step = step; held = held; well_formed = well_formed; crash = (refl, keeps); store_fault_justified = λ e. store_fault_justified (reported_reply reply (Refused StoreFault) e); account = account_same json_texts m m refl }
-    asked_served Steps text reply a b c d step store_fault_justified = record { next = m; step = step; held = held; well_formed = well_formed; crash = (refl, keeps); store_fault_justified = λ e. store_fault_justified (reported_reply reply (Refused StoreFault) e); account = account_same json_texts m m refl }
+    asked_served _ text reply a b c d step store_fault_justified = record { next = m; step = step; held = held; well_formed = well_formed; crash = (refl, keeps); store_fault_justified = λ e. store_fault_justified (reported_reply reply (Refused StoreFault) e); account = account_same json_texts m m refl }
 
     pub plans_served : (body : List ℕ) (response : Response) → PlansStep m (body_plans body) response m → (response ≡ replied (Refused StoreFault) → StoreFailed (book.failed before) (book.failed after))
         → HasServedInput book before after m (asking Plans body) response

@@ -56,11 +56,7 @@ fault_status faults.LargeHead = 431
 abbrev pub fault_fields : RequestFault → List ℕ
 fault_fields faults.OnlyGet = codes "Allow: GET" ++ head_line_end
 fault_fields faults.OnlyPost = codes "Allow: POST" ++ head_line_end
-fault_fields faults.BadRequest = []
-fault_fields faults.NotFound = []
-fault_fields faults.NoLength = []
-fault_fields faults.LargeBody = []
-fault_fields faults.LargeHead = []
+fault_fields _ = []
 
 abbrev pub fault_answer : RequestFault → Answer
 fault_answer f = record { status = fault_status f; fields = fault_fields f; body = [] }

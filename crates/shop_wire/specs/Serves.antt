@@ -33,7 +33,7 @@ use Rattle.shop_desk.specs.Handled.{HasAccount}
 use Rattle.shop_text.specs.Tickets.{ticket_of}
 use Rattle.shop_text.specs.Yields.{yield_of}
 use Rattle.shop_request.specs.declared.routes.Route.{Route}
-use Rattle.shop_request.specs.declared.routes.Route.TheVariants.{Message, Plan, Plans, Bound, Backup, Totals, Rack, Trace, Demand, Ticket, Yield, Materials, Parts, PartsAfter, Demands, DemandsOf, Orders, OrdersAfter, OrderLines, Jobs, Job, Terminal, Shop, History, OrderStory, JobStory, PartStory, OrderPieces, OrderPiecesAfter, BatchPieces, BatchPiecesAfter, UnitPieces, UnitPiecesAfter, Steps}
+use Rattle.shop_request.specs.declared.routes.Route.TheVariants.{Message, Plan, Plans, Bound, Totals, Rack, Trace, Demand, Ticket, Yield, Materials, Parts, PartsAfter, Demands, DemandsOf, Orders, OrdersAfter, OrderLines, Jobs, Job, Terminal, Shop, History, OrderStory, JobStory, PartStory, OrderPieces, OrderPiecesAfter, BatchPieces, BatchPiecesAfter, UnitPieces, UnitPiecesAfter, Steps}
 use Rattle.shop_request.specs.Routes.{takes_body}
 use Rattle.shop_request.specs.Requests.{ParseResult, silent, faulty, asking, ParsesTo}
 use Rattle.shop_wire.specs.Replays.{ExchangesLead, data_of, line_message, IsNoMessage, IsReplied, PlansStep, with_reply}
@@ -203,39 +203,10 @@ PrintStep old asked response new = MatchOption asked (IsReplied response (λ rep
 
 abbrev pub RequestStep : Content → Route → List ℕ → Response → Content → Type 0
 RequestStep old Message text response new = IsReplied response (λ reply. MessageStep old text reply new)
-RequestStep old Plan text response new = IsReplied response (λ reply. AskStep old (asked_at Plan text) reply new)
 RequestStep old Plans text response new = PlansStep old (body_plans text) response new
-RequestStep old Bound text response new = IsReplied response (λ reply. AskStep old (asked_at Bound text) reply new)
-RequestStep old Backup text response new = IsReplied response (λ reply. AskStep old (asked_at Backup text) reply new)
-RequestStep old Totals text response new = IsReplied response (λ reply. AskStep old (asked_at Totals text) reply new)
-RequestStep old Rack text response new = IsReplied response (λ reply. AskStep old (asked_at Rack text) reply new)
-RequestStep old Trace text response new = IsReplied response (λ reply. AskStep old (asked_at Trace text) reply new)
-RequestStep old Demand text response new = IsReplied response (λ reply. AskStep old (asked_at Demand text) reply new)
-RequestStep old Materials text response new = IsReplied response (λ reply. AskStep old (asked_at Materials text) reply new)
-RequestStep old Parts text response new = IsReplied response (λ reply. AskStep old (asked_at Parts text) reply new)
-RequestStep old PartsAfter text response new = IsReplied response (λ reply. AskStep old (asked_at PartsAfter text) reply new)
-RequestStep old Demands text response new = IsReplied response (λ reply. AskStep old (asked_at Demands text) reply new)
-RequestStep old DemandsOf text response new = IsReplied response (λ reply. AskStep old (asked_at DemandsOf text) reply new)
-RequestStep old Orders text response new = IsReplied response (λ reply. AskStep old (asked_at Orders text) reply new)
-RequestStep old OrdersAfter text response new = IsReplied response (λ reply. AskStep old (asked_at OrdersAfter text) reply new)
-RequestStep old OrderLines text response new = IsReplied response (λ reply. AskStep old (asked_at OrderLines text) reply new)
-RequestStep old Jobs text response new = IsReplied response (λ reply. AskStep old (asked_at Jobs text) reply new)
-RequestStep old Job text response new = IsReplied response (λ reply. AskStep old (asked_at Job text) reply new)
-RequestStep old Terminal text response new = IsReplied response (λ reply. AskStep old (asked_at Terminal text) reply new)
-RequestStep old Shop text response new = IsReplied response (λ reply. AskStep old (asked_at Shop text) reply new)
-RequestStep old History text response new = IsReplied response (λ reply. AskStep old (asked_at History text) reply new)
-RequestStep old OrderStory text response new = IsReplied response (λ reply. AskStep old (asked_at OrderStory text) reply new)
-RequestStep old JobStory text response new = IsReplied response (λ reply. AskStep old (asked_at JobStory text) reply new)
-RequestStep old PartStory text response new = IsReplied response (λ reply. AskStep old (asked_at PartStory text) reply new)
-RequestStep old OrderPieces text response new = IsReplied response (λ reply. AskStep old (asked_at OrderPieces text) reply new)
-RequestStep old OrderPiecesAfter text response new = IsReplied response (λ reply. AskStep old (asked_at OrderPiecesAfter text) reply new)
-RequestStep old BatchPieces text response new = IsReplied response (λ reply. AskStep old (asked_at BatchPieces text) reply new)
-RequestStep old BatchPiecesAfter text response new = IsReplied response (λ reply. AskStep old (asked_at BatchPiecesAfter text) reply new)
-RequestStep old UnitPieces text response new = IsReplied response (λ reply. AskStep old (asked_at UnitPieces text) reply new)
-RequestStep old UnitPiecesAfter text response new = IsReplied response (λ reply. AskStep old (asked_at UnitPiecesAfter text) reply new)
-RequestStep old Steps text response new = IsReplied response (λ reply. AskStep old (asked_at Steps text) reply new)
 RequestStep old Ticket text response new = PrintStep old (text_at old Ticket text) response new
 RequestStep old Yield text response new = PrintStep old (text_at old Yield text) response new
+RequestStep old route text response new = IsReplied response (λ reply. AskStep old (asked_at route text) reply new)
 
 -- only a request does anything
 abbrev pub ParsedStep : Content → ParseResult → Response → Content → Type 0

@@ -7,7 +7,7 @@ use Rattle.cut_measure.specs.declared.ranges.TheConstants.{MAX_KERF}
 use Rattle.shop_words.specs.declared.words.OrderPlan.{OrderPlan}
 use Rattle.shop_words.specs.declared.words.Serving.{Serving}
 use Rattle.shop_words.specs.declared.words.Request.{Request}
-use Rattle.shop_words.specs.declared.words.Request.TheVariants.{Replay, Plan, PlanOrder, PlanLines, Orders, Serve, Ticket, Yield, History, Audit, Restore}
+use Rattle.shop_words.specs.declared.words.Request.TheVariants.{Replay, Plan, PlanLines, Orders, Serve, Ticket, Yield, History, Audit, Restore}
 use Rattle.shop_words.specs.declared.words.Word.{Word}
 use Rattle.shop_words.specs.declared.words.Word.TheVariants as word
 use Rattle.shop_words.specs.declared.words.ImportAs.{ImportAs}
@@ -91,33 +91,13 @@ problem_asked rows named found = as_asked found _ _ (λ request is. inr (named, 
 
 -- no plan of an order file is asked for, and so no such request
 pub no_lines : (rows : List Row) → ((plan : OrderPlan) → IsOrderPlan rows plan → ⊥) → (request : Request) → IsLinesAsked rows request → ⊥
-no_lines rows none Replay asked = asked
-no_lines rows none (Plan file kerf step) asked = asked
-no_lines rows none (PlanOrder file kerf step calls stages) asked = asked
 no_lines rows none (PlanLines plan) asked = none plan asked
-no_lines rows none (Orders file shop None) asked = asked
-no_lines rows none (Orders file shop (Some reported)) asked = asked
-no_lines rows none (Serve serving) asked = asked
-no_lines rows none (Ticket store job read_only) asked = asked
-no_lines rows none (Yield store material read_only) asked = asked
-no_lines rows none (History store after read_only) asked = asked
-no_lines rows none (Audit store read_only) asked = asked
-no_lines rows none (Restore store from) asked = asked
+no_lines rows none _ asked = asked
 
 -- nothing is served, and so no such request
 pub no_serving : (rows : List Row) → ((serving : Serving) → IsServing rows serving → ⊥) → (request : Request) → IsServeAsked rows request → ⊥
-no_serving rows none Replay asked = asked
-no_serving rows none (Plan file kerf step) asked = asked
-no_serving rows none (PlanOrder file kerf step calls stages) asked = asked
-no_serving rows none (PlanLines plan) asked = asked
-no_serving rows none (Orders file shop None) asked = asked
-no_serving rows none (Orders file shop (Some reported)) asked = asked
 no_serving rows none (Serve serving) asked = none serving asked
-no_serving rows none (Ticket store job read_only) asked = asked
-no_serving rows none (Yield store material read_only) asked = asked
-no_serving rows none (History store after read_only) asked = asked
-no_serving rows none (Audit store read_only) asked = asked
-no_serving rows none (Restore store from) asked = asked
+no_serving rows none _ asked = asked
 
 -- the texts behind an option
 pub texts_found : (found : Option (List Text)) (texts : List Text) → Some texts ≡ found → texts ≡ unwrap_or found []
@@ -133,33 +113,15 @@ pub no_plan_file : (rows : List Row) → first_of (codes "FILE") rows ≡ None �
 no_plan_file rows none request asked = nothing (first_of (codes "FILE") rows) asked.0 none asked.2
 
 pub no_orders_file : (rows : List Row) → first_of (codes "FILE") rows ≡ None → (request : Request) → IsOrdersAsked rows request → ⊥
-no_orders_file rows none Replay asked = asked
-no_orders_file rows none (Plan file kerf step) asked = asked
-no_orders_file rows none (PlanOrder file kerf step calls stages) asked = asked
-no_orders_file rows none (PlanLines plan) asked = asked
 no_orders_file rows none (Orders file shop None) asked = nothing (first_of (codes "FILE") rows) file.now none asked.0
 no_orders_file rows none (Orders file shop (Some reported)) asked = nothing (first_of (codes "FILE") rows) file.now none asked.0
-no_orders_file rows none (Serve serving) asked = asked
-no_orders_file rows none (Ticket store job read_only) asked = asked
-no_orders_file rows none (Yield store material read_only) asked = asked
-no_orders_file rows none (History store after read_only) asked = asked
-no_orders_file rows none (Audit store read_only) asked = asked
-no_orders_file rows none (Restore store from) asked = asked
+no_orders_file rows none _ asked = asked
 
 -- some of the options are there, and no message is made of them
 pub no_orders_message : (rows : List Row) → names_message rows ≡ true → ((reported : ImportAs) → IsImportAs rows reported → ⊥) → (request : Request) → IsOrdersAsked rows request → ⊥
-no_orders_message rows some none Replay asked = asked
-no_orders_message rows some none (Plan file kerf step) asked = asked
-no_orders_message rows some none (PlanOrder file kerf step calls stages) asked = asked
-no_orders_message rows some none (PlanLines plan) asked = asked
 no_orders_message rows some none (Orders file shop None) asked = absurd (cc (sym asked.2 ∙ some))
 no_orders_message rows some none (Orders file shop (Some reported)) asked = none reported asked.2
-no_orders_message rows some none (Serve serving) asked = asked
-no_orders_message rows some none (Ticket store job read_only) asked = asked
-no_orders_message rows some none (Yield store material read_only) asked = asked
-no_orders_message rows some none (History store after read_only) asked = asked
-no_orders_message rows some none (Audit store read_only) asked = asked
-no_orders_message rows some none (Restore store from) asked = asked
+no_orders_message rows some none _ asked = asked
 
 -- the limit's number is out of range
 pub no_limit : (rows : List Row) → is_some (first_of (codes "limit") rows) ≡ true → ((n : ℕ) → HasNumber (codes "limit") rows 1 MAX_CONNECTIONS n → ⊥) → (limit : Option ℕ) → IsLimit rows limit → ⊥
@@ -168,117 +130,37 @@ no_limit rows some none (Some n) (inl has) = none n has
 no_limit rows some none (Some n) (inr is) = absurd (cc (sym is.0 ∙ some))
 
 pub no_ticket_store : (rows : List Row) → first_of (codes "store") rows ≡ None → (request : Request) → IsTicketAsked rows request → ⊥
-no_ticket_store rows none Replay asked = asked
-no_ticket_store rows none (Plan file kerf step) asked = asked
-no_ticket_store rows none (PlanOrder file kerf step calls stages) asked = asked
-no_ticket_store rows none (PlanLines plan) asked = asked
-no_ticket_store rows none (Orders file shop None) asked = asked
-no_ticket_store rows none (Orders file shop (Some reported)) asked = asked
-no_ticket_store rows none (Serve serving) asked = asked
 no_ticket_store rows none (Ticket store job read_only) asked = nothing (first_of (codes "store") rows) store.now none asked.0
-no_ticket_store rows none (Yield store material read_only) asked = asked
-no_ticket_store rows none (History store after read_only) asked = asked
-no_ticket_store rows none (Audit store read_only) asked = asked
-no_ticket_store rows none (Restore store from) asked = asked
+no_ticket_store rows none _ asked = asked
 
 pub no_yield_store : (rows : List Row) → first_of (codes "store") rows ≡ None → (request : Request) → IsYieldAsked rows request → ⊥
-no_yield_store rows none Replay asked = asked
-no_yield_store rows none (Plan file kerf step) asked = asked
-no_yield_store rows none (PlanOrder file kerf step calls stages) asked = asked
-no_yield_store rows none (PlanLines plan) asked = asked
-no_yield_store rows none (Orders file shop None) asked = asked
-no_yield_store rows none (Orders file shop (Some reported)) asked = asked
-no_yield_store rows none (Serve serving) asked = asked
-no_yield_store rows none (Ticket store job read_only) asked = asked
 no_yield_store rows none (Yield store material read_only) asked = nothing (first_of (codes "store") rows) store.now none asked.0
-no_yield_store rows none (History store after read_only) asked = asked
-no_yield_store rows none (Audit store read_only) asked = asked
-no_yield_store rows none (Restore store from) asked = asked
+no_yield_store rows none _ asked = asked
 
 pub no_yield_code : (rows : List Row) → ((code : List ℕ) → IsCode (first_of (codes "MATERIAL") rows) code → ⊥) → (request : Request) → IsYieldAsked rows request → ⊥
-no_yield_code rows none Replay asked = asked
-no_yield_code rows none (Plan file kerf step) asked = asked
-no_yield_code rows none (PlanOrder file kerf step calls stages) asked = asked
-no_yield_code rows none (PlanLines plan) asked = asked
-no_yield_code rows none (Orders file shop None) asked = asked
-no_yield_code rows none (Orders file shop (Some reported)) asked = asked
-no_yield_code rows none (Serve serving) asked = asked
-no_yield_code rows none (Ticket store job read_only) asked = asked
 no_yield_code rows none (Yield store material read_only) asked = none material asked.1
-no_yield_code rows none (History store after read_only) asked = asked
-no_yield_code rows none (Audit store read_only) asked = asked
-no_yield_code rows none (Restore store from) asked = asked
+no_yield_code rows none _ asked = asked
 
 pub no_history_store : (rows : List Row) → first_of (codes "store") rows ≡ None → (request : Request) → IsHistoryAsked rows request → ⊥
-no_history_store rows none Replay asked = asked
-no_history_store rows none (Plan file kerf step) asked = asked
-no_history_store rows none (PlanOrder file kerf step calls stages) asked = asked
-no_history_store rows none (PlanLines plan) asked = asked
-no_history_store rows none (Orders file shop None) asked = asked
-no_history_store rows none (Orders file shop (Some reported)) asked = asked
-no_history_store rows none (Serve serving) asked = asked
-no_history_store rows none (Ticket store job read_only) asked = asked
-no_history_store rows none (Yield store material read_only) asked = asked
 no_history_store rows none (History store after read_only) asked = nothing (first_of (codes "store") rows) store.now none asked.0
-no_history_store rows none (Audit store read_only) asked = asked
-no_history_store rows none (Restore store from) asked = asked
+no_history_store rows none _ asked = asked
 
 -- the number behind which entries are asked for is out of range
 pub no_history_after : (rows : List Row) → ((after : Option ℕ) → MayHaveNumber (codes "after") rows 0 MAX_AFTER after → ⊥) → (request : Request) → IsHistoryAsked rows request → ⊥
-no_history_after rows none Replay asked = asked
-no_history_after rows none (Plan file kerf step) asked = asked
-no_history_after rows none (PlanOrder file kerf step calls stages) asked = asked
-no_history_after rows none (PlanLines plan) asked = asked
-no_history_after rows none (Orders file shop None) asked = asked
-no_history_after rows none (Orders file shop (Some reported)) asked = asked
-no_history_after rows none (Serve serving) asked = asked
-no_history_after rows none (Ticket store job read_only) asked = asked
-no_history_after rows none (Yield store material read_only) asked = asked
 no_history_after rows none (History store after read_only) asked = none after asked.1
-no_history_after rows none (Audit store read_only) asked = asked
-no_history_after rows none (Restore store from) asked = asked
+no_history_after rows none _ asked = asked
 
 pub no_audit_store : (rows : List Row) → first_of (codes "store") rows ≡ None → (request : Request) → IsAuditAsked rows request → ⊥
-no_audit_store rows none Replay asked = asked
-no_audit_store rows none (Plan file kerf step) asked = asked
-no_audit_store rows none (PlanOrder file kerf step calls stages) asked = asked
-no_audit_store rows none (PlanLines plan) asked = asked
-no_audit_store rows none (Orders file shop None) asked = asked
-no_audit_store rows none (Orders file shop (Some reported)) asked = asked
-no_audit_store rows none (Serve serving) asked = asked
-no_audit_store rows none (Ticket store job read_only) asked = asked
-no_audit_store rows none (Yield store material read_only) asked = asked
-no_audit_store rows none (History store after read_only) asked = asked
 no_audit_store rows none (Audit store read_only) asked = nothing (first_of (codes "store") rows) store.now none asked.0
-no_audit_store rows none (Restore store from) asked = asked
+no_audit_store rows none _ asked = asked
 
 pub no_restore_store : (rows : List Row) → first_of (codes "store") rows ≡ None → (request : Request) → IsRestoreAsked rows request → ⊥
-no_restore_store rows none Replay asked = asked
-no_restore_store rows none (Plan file kerf step) asked = asked
-no_restore_store rows none (PlanOrder file kerf step calls stages) asked = asked
-no_restore_store rows none (PlanLines plan) asked = asked
-no_restore_store rows none (Orders file shop None) asked = asked
-no_restore_store rows none (Orders file shop (Some reported)) asked = asked
-no_restore_store rows none (Serve serving) asked = asked
-no_restore_store rows none (Ticket store job read_only) asked = asked
-no_restore_store rows none (Yield store material read_only) asked = asked
-no_restore_store rows none (History store after read_only) asked = asked
-no_restore_store rows none (Audit store read_only) asked = asked
 no_restore_store rows none (Restore store from) asked = nothing (first_of (codes "store") rows) store.now none asked.0
+no_restore_store rows none _ asked = asked
 
 pub no_restore_from : (rows : List Row) → first_of (codes "from") rows ≡ None → (request : Request) → IsRestoreAsked rows request → ⊥
-no_restore_from rows none Replay asked = asked
-no_restore_from rows none (Plan file kerf step) asked = asked
-no_restore_from rows none (PlanOrder file kerf step calls stages) asked = asked
-no_restore_from rows none (PlanLines plan) asked = asked
-no_restore_from rows none (Orders file shop None) asked = asked
-no_restore_from rows none (Orders file shop (Some reported)) asked = asked
-no_restore_from rows none (Serve serving) asked = asked
-no_restore_from rows none (Ticket store job read_only) asked = asked
-no_restore_from rows none (Yield store material read_only) asked = asked
-no_restore_from rows none (History store after read_only) asked = asked
-no_restore_from rows none (Audit store read_only) asked = asked
 no_restore_from rows none (Restore store from) asked = nothing (first_of (codes "from") rows) from.now none asked.1
+no_restore_from rows none _ asked = asked
 
 -- ---- the words of the commands differ: each has another first letter, or two of them another third one
 
@@ -292,14 +174,7 @@ word_at text =
 word_at-text : (w : Word) → word_at (word_text w) ≡ w
 unfolding word_at
 word_at-text word.Replay = refl
-word_at-text word.Plan = refl
-word_at-text word.Orders = refl
-word_at-text word.Serve = refl
-word_at-text word.Ticket = refl
-word_at-text word.Yield = refl
-word_at-text word.History = refl
-word_at-text word.Audit = refl
-word_at-text word.Restore = refl
+word_at-text _ = refl
 
 one_word : (v w : Word) → word_text v ≡ word_text w → v ≡ w
 one_word v w same = sym (word_at-text v) ∙ ap word_at same ∙ word_at-text w

@@ -1,11 +1,11 @@
 -- Kerf and stages of what the words ask for are in range.
-use Rattle.std.proofs.Common.{◌≡◌, ◌≤◌, ◌⊎◌, ℕ, List, Option, Some, None, Bor, codes, inl, inr, subst, sym}
+use Rattle.std.proofs.Common.{◌≤◌, ℕ, List, Option, Some, None, Bor, codes, inl, inr, subst, sym}
 use Rattle.clap.specs.Words.{Row, Text}
 use Rattle.cut_measure.specs.declared.ranges.TheConstants.{MAX_KERF}
 use Rattle.shop_words.specs.declared.words.TheConstants.{MIN_STAGES, MAX_STAGES}
 use Rattle.shop_words.specs.declared.words.OrderPlan.{OrderPlan}
 use Rattle.shop_words.specs.declared.words.Request.{Request}
-use Rattle.shop_words.specs.declared.words.Request.TheVariants.{Replay, Plan, PlanOrder, PlanLines, Orders, Serve, Ticket, Yield, History, Audit, Restore}
+use Rattle.shop_words.specs.declared.words.Request.TheVariants.{Replay, Plan, PlanOrder, PlanLines}
 use Rattle.shop_words.specs.declared.words.Word.{Word}
 use Rattle.shop_words.specs.declared.words.Word.TheVariants as word
 use Rattle.shop_words.specs.CommandLine.{AsksFor, HasMeasures, HasStages, IsAsked, IsProblemAsked, MayHaveNumber}
@@ -27,25 +27,13 @@ one_asked : (w : Word) (rows : List Row) (file : Bor Text) (kerf step : ℕ) →
 one_asked word.Replay rows file kerf step asked = cc
 one_asked word.Plan rows file kerf step (inl lines) = absurd lines.1
 one_asked word.Plan rows file kerf step (inr problem) = of_one rows file kerf step problem.1
-one_asked word.Orders rows file kerf step asked = absurd asked
-one_asked word.Serve rows file kerf step asked = absurd asked
-one_asked word.Ticket rows file kerf step asked = absurd asked
-one_asked word.Yield rows file kerf step asked = absurd asked
-one_asked word.History rows file kerf step asked = absurd asked
-one_asked word.Audit rows file kerf step asked = absurd asked
-one_asked word.Restore rows file kerf step asked = absurd asked
+one_asked _ rows file kerf step asked = absurd asked
 
 all_asked : (w : Word) (rows : List Row) (file : Bor Text) (kerf : ℕ) (step calls stages : Option ℕ) → IsAsked w rows (PlanOrder file kerf step calls stages) → (kerf ≤ MAX_KERF) × HasStages stages
 all_asked word.Replay rows file kerf step calls stages asked = cc
 all_asked word.Plan rows file kerf step calls stages (inl lines) = absurd lines.1
 all_asked word.Plan rows file kerf step calls stages (inr problem) = of_all rows file kerf step calls stages problem.1
-all_asked word.Orders rows file kerf step calls stages asked = absurd asked
-all_asked word.Serve rows file kerf step calls stages asked = absurd asked
-all_asked word.Ticket rows file kerf step calls stages asked = absurd asked
-all_asked word.Yield rows file kerf step calls stages asked = absurd asked
-all_asked word.History rows file kerf step calls stages asked = absurd asked
-all_asked word.Audit rows file kerf step calls stages asked = absurd asked
-all_asked word.Restore rows file kerf step calls stages asked = absurd asked
+all_asked _ rows file kerf step calls stages asked = absurd asked
 
 no_problem : {A : Type 0} (rows : List Row) (plan : OrderPlan) → IsProblemAsked rows (PlanLines plan) → A
 no_problem rows plan (path, k, there, number, inl whole) = absurd whole.1
@@ -55,24 +43,11 @@ lines_asked : (w : Word) (rows : List Row) (plan : OrderPlan) → IsAsked w rows
 lines_asked word.Replay rows plan asked = cc
 lines_asked word.Plan rows plan (inl lines) = stages_of rows plan.stages lines.1.4
 lines_asked word.Plan rows plan (inr problem) = no_problem rows plan problem.1
-lines_asked word.Orders rows plan asked = absurd asked
-lines_asked word.Serve rows plan asked = absurd asked
-lines_asked word.Ticket rows plan asked = absurd asked
-lines_asked word.Yield rows plan asked = absurd asked
-lines_asked word.History rows plan asked = absurd asked
-lines_asked word.Audit rows plan asked = absurd asked
-lines_asked word.Restore rows plan asked = absurd asked
+lines_asked _ rows plan asked = absurd asked
 
 pub measured : (found : Option (Text × List Row)) (request : Request) → AsksFor found request → HasMeasures request
 measured None request asked = absurd asked
-measured (Some (name, rows)) Replay asked = tt
 measured (Some (name, rows)) (Plan file kerf step) asked = one_asked asked.0 rows file kerf step asked.2
 measured (Some (name, rows)) (PlanOrder file kerf step calls stages) asked = all_asked asked.0 rows file kerf step calls stages asked.2
 measured (Some (name, rows)) (PlanLines plan) asked = lines_asked asked.0 rows plan asked.2
-measured (Some (name, rows)) (Orders file shop reported) asked = tt
-measured (Some (name, rows)) (Serve serving) asked = tt
-measured (Some (name, rows)) (Ticket store job read_only) asked = tt
-measured (Some (name, rows)) (Yield store material read_only) asked = tt
-measured (Some (name, rows)) (History store after read_only) asked = tt
-measured (Some (name, rows)) (Audit store read_only) asked = tt
-measured (Some (name, rows)) (Restore store from) asked = tt
+measured (Some (name, rows)) _ asked = tt
